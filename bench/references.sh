@@ -1,0 +1,49 @@
+#!/bin/sh
+# Builds musl's and newlib's versions of the timed functions, under the names musl_floor and newlib_floor, so that one binary can
+# hold them beside glibc's: references.sh OUT writes OUT/musl.o, OUT/newlib.o and OUT/versions.h. A library that is not installed
+# gives an empty object and a line that says so.
+set -eu
+here=$(cd "$(dirname "$0")" && pwd)
+out=$1
+cc=${CC:-gcc}
+names=$(sed -n 's/^ *\(WORD\|WHOLE\)(\([a-z]*\),.*/\2/p' "$here/functions.h")
+mkdir -p "$out"
+
+empty() { echo | "$cc" -x c -c - -o "$1"; }
+version() { dpkg-query -W -f '${Version}' "$1" 2>/dev/null || echo "version unknown"; }
+
+# musl comes compiled. The linker takes what the names need, and what that needs, out of its archive.
+musl="not installed: make bench-deps"
+archive=$(ls /usr/lib/*-linux-musl/libc.a 2>/dev/null | head -n 1)
+if [ -n "$archive" ]; then
+    objcopy --set-section-alignment '.text*=64' "$archive" "$out/musl.a"
+    ld -r $(printf ' -u %s' $names) $(printf ' -u %sf' $names) "$out/musl.a" -o "$out/musl-plain.o"
+    objcopy --prefix-symbols=musl_ "$out/musl-plain.o" "$out/musl.o"
+    musl=$(version musl-dev)
+else
+    empty "$out/musl.o"
+fi
+
+# newlib comes as source. Its generic C files are one a function and width; nearbyint calls rint.
+newlib="not installed: make bench-deps"
+source=$(ls /usr/src/newlib/newlib-*.tar.* 2>/dev/null | head -n 1)
+if [ -n "$source" ]; then
+    mkdir -p "$out/newlib"
+    tar -xf "$source" -C "$out/newlib" --strip-components=2 --wildcards \
+        '*/newlib/libm/common' '*/newlib/libm/math' '*/newlib/libc/include'
+    objects=
+    for name in $names rint; do
+        for file in "s_$name" "sf_$name"; do
+            "$cc" -O2 -falign-functions=64 -w -fno-builtin -nostdinc -isystem "$("$cc" -print-file-name=include)" \
+                -I "$out/newlib/libc/include" -I "$out/newlib/libm/common" -c "$(ls "$out/newlib/libm"/*/"$file.c")" -o "$out/newlib/$file.o"
+            objects="$objects $out/newlib/$file.o"
+        done
+    done
+    ld -r $objects -o "$out/newlib-plain.o"
+    objcopy --prefix-symbols=newlib_ "$out/newlib-plain.o" "$out/newlib.o"
+    newlib=$(version newlib-source)
+else
+    empty "$out/newlib.o"
+fi
+
+printf '#define MUSL_VERSION "%s"\n#define NEWLIB_VERSION "%s"\n' "$musl" "$newlib" >"$out/versions.h"

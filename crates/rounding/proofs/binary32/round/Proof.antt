@@ -1,0 +1,27 @@
+-- `binary32::round` meets its contract. Assumes nothing.
+use native.Mathlib.Omega.{arith}
+use Rattle.float_format.specs.Format.{binary32}
+use Rattle.float_format.specs.declared.Direction.the-variants.{HalfAway}
+use Rattle.rounding.proofs.Directions.{answered}
+use borrow.Author.Needs.{needs}
+use Rattle.rounding.proofs.binary32.round.Statement.{statement}
+use Rattle.rounding.proofs.binary32.round.Tie as tie
+
+round-finite-requires : tie.Need-round-finite-requires
+round-finite-requires c κs = search needs
+
+returns : tie.Need-returns
+returns c = search needs
+
+not-finite-requires : tie.Need-not-finite-requires
+not-finite-requires c κs = search needs
+
+cast-result : tie.Need-cast-result
+cast-result c = omega (arith, answered binary32 HalfAway (c .before .before .args .x) (c .not-finite .result) (omega arith) (omega arith) (c .not-finite .ensures HalfAway) .1)
+
+returns-2 : tie.Need-returns-2
+returns-2 c = c .not-finite .ensures HalfAway
+
+pub round-spec : {M : Type 1} → statement M
+round-spec =
+    tie.close (tie.spec round-finite-requires returns not-finite-requires cast-result returns-2)

@@ -1,0 +1,3 @@
+-- What the contracts of the roundings cite beside the definitions of `float_format`.
+pub mod Shape
+pub mod Answer

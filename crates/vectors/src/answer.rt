@@ -1,0 +1,85 @@
+// What a case answers, and the line that says it.
+ghost use mathlib.Core.Path.{_≡_};
+ghost use lib.ListN.{length};
+ghost use mir.Syntax.{w64};
+ghost use mir.Val.{ofZ};
+ghost use Rattle.float_format.specs.Format.{classNumber};
+ghost use Rattle.rounding.specs.Answer.{refusalOf, valueOf};
+ghost use Rattle.vectors.specs.Answer.{patternAnswer, unknownAnswer, wholeAnswer};
+ghost use Rattle.vectors.specs.Line.{lineOf};
+use crate::hex;
+use float_format::Class;
+use rounding::Integer;
+
+// The bytes of a line of output, with its line feed.
+pub const LINE: usize = 37;
+
+// The refusal's number, 0 where there is none, and the words returned, 0 where there is none.
+pub struct Answer {
+    pub refusal: u64,
+    pub first: u64,
+    pub second: u64,
+}
+
+impl Answer {
+    // To a line that is malformed, and to a function or a width that is not known.
+    pub fn unknown() -> Answer
+        ensures { λ r. ⌜ r ≡ unknownAnswer ⌝ }
+    {
+        Answer {
+            refusal: 0xff,
+            first: 0,
+            second: 0,
+        }
+    }
+
+    // One pattern, and no refusal.
+    pub fn pattern(x: u64) -> Answer
+        ensures { λ r. ⌜ r ≡ patternAnswer x ⌝ }
+    {
+        Answer {
+            refusal: 0,
+            first: x,
+            second: 0,
+        }
+    }
+
+    // The number of a class.
+    pub fn class(c: Class) -> Answer
+        ensures { λ r. ⌜ r ≡ patternAnswer (classNumber c) ⌝ }
+    {
+        Self::pattern(c.number() as u64)
+    }
+
+    // What lround answers.
+    pub fn integer(n: Integer) -> Answer
+        ensures { λ r. ⌜ r ≡ wholeAnswer (refusalOf n) (valueOf n) ⌝ }
+    {
+        let first = twos_complement(n.value());
+        Answer {
+            refusal: n.refusal(),
+            first,
+            second: 0,
+        }
+    }
+
+    // Fills a line of output.
+    pub fn format(self, line: &mut [u8])
+        requires { ⌜ length (now line) ≡ 37 ⌝ }
+        ensures { λ _. ⌜ now (line .exit) ≡ lineOf self ⌝ }
+    {
+        hex::write(self.refusal, &mut line[..2]);
+        line[2] = b' ';
+        hex::write(self.first, &mut line[3..19]);
+        line[19] = b' ';
+        hex::write(self.second, &mut line[20..36]);
+        line[36] = b'\n';
+    }
+}
+
+// The 64 bits of z. Below 0 they are those of !z flipped, and !z is at least 0, so that the cast keeps it.
+fn twos_complement(z: i64) -> u64
+    ensures { λ r. ⌜ r ≡ ofZ w64 z ⌝ }
+{
+    if z >= 0 { z as u64 } else { !((!z) as u64) }
+}

@@ -1,0 +1,129 @@
+// A case to run: what a line of input holds, and the call that it asks for.
+ghost use mathlib.Core.Path.{_≡_};
+ghost use Prim.Native.Nat.{_%_, _^_};
+ghost use lib.ListN.{length};
+ghost use Rattle.float_format.specs.Format.{binary32, binary64};
+ghost use Rattle.vectors.specs.Answer.{answerAt, answerOf};
+ghost use Rattle.vectors.specs.Line.{separatedBy, caseOf};
+use crate::answer::Answer;
+use crate::hex;
+use float_format::Binary32;
+use float_format::Binary64;
+use rounding::binary32;
+use rounding::binary64;
+
+// The bytes of a line of input, with its line feed.
+pub const LINE: usize = 40;
+
+// The function's number, the width in bits, and the operands; y is 0 where the function takes one.
+pub struct Case {
+    pub function: u64,
+    pub width: u64,
+    pub x: u64,
+    pub y: u64,
+}
+
+// A line's case, unless it is malformed.
+pub enum Parsed {
+    Case(Case),
+    Malformed,
+}
+
+// Whether the fields of a line are parted by spaces, and a line feed ends it.
+fn separated(line: &[u8]) -> bool
+    requires { ⌜ length (now line) ≡ 40 ⌝ }
+    ensures { λ r. ⌜ r ≡ separatedBy (now (line .entry)) ⌝ }
+{
+    if line[2] != b' ' {
+        return false;
+    }
+    if line[5] != b' ' {
+        return false;
+    }
+    if line[22] != b' ' {
+        return false;
+    }
+    line[39] == b'\n'
+}
+
+// The case of a line.
+pub fn parse(line: &[u8]) -> Parsed
+    requires { ⌜ length (now line) ≡ 40 ⌝ }
+    ensures { λ r. ⌜ r ≡ caseOf (now (line .entry)) ⌝ }
+{
+    if !separated(line) {
+        return Parsed::Malformed;
+    }
+    let hex::Field::Value(function) = hex::read(line, 0, 2) else {
+        return Parsed::Malformed;
+    };
+    let hex::Field::Value(width) = hex::read(line, 3, 2) else {
+        return Parsed::Malformed;
+    };
+    let hex::Field::Value(x) = hex::read(line, 6, 16) else {
+        return Parsed::Malformed;
+    };
+    let hex::Field::Value(y) = hex::read(line, 23, 16) else {
+        return Parsed::Malformed;
+    };
+    Parsed::Case(Case {
+        function,
+        width,
+        x,
+        y,
+    })
+}
+
+impl Case {
+    // What the function answers.
+    pub fn answer(self) -> Answer
+        ensures { λ r. ⌜ r ≡ answerOf self ⌝ }
+    {
+        let width = self.width;
+        match width {
+            64 => self.answer64(),
+            32 => self.answer32(),
+            _ => Answer::unknown(),
+        }
+    }
+
+    // The first operand is a pattern of binary64.
+    fn answer64(self) -> Answer
+        ensures { λ r. ⌜ r ≡ answerAt binary64 (self .function) (self .x) (self .y) ⌝ }
+    {
+        let function = self.function;
+        let x = self.x;
+        match function {
+            0x10 => Answer::pattern(binary64::floor(x)),
+            0x11 => Answer::pattern(binary64::ceil(x)),
+            0x12 => Answer::pattern(binary64::trunc(x)),
+            0x13 => Answer::pattern(binary64::round(x)),
+            0x14 => Answer::pattern(binary64::nearbyint(x)),
+            0x16 => Answer::pattern(Binary64::fabs(x)),
+            0x17 => Answer::pattern(Binary64::negate(x)),
+            0x18 => Answer::integer(binary64::lround(x)),
+            0x19 => Answer::class(Binary64::classify(x)),
+            _ => Answer::unknown(),
+        }
+    }
+
+    // The first operand is taken modulo 2^32, as a pattern of binary32.
+    fn answer32(self) -> Answer
+        ensures { λ r. ⌜ r ≡ answerAt binary32 (self .function) (self .x % 2 ^ 32) (self .y) ⌝ }
+    {
+        let function = self.function;
+        let x = (self.x % 0x1_0000_0000) as u32;
+        match function {
+            0x10 => Answer::pattern(binary32::floor(x) as u64),
+            0x11 => Answer::pattern(binary32::ceil(x) as u64),
+            0x12 => Answer::pattern(binary32::trunc(x) as u64),
+            0x13 => Answer::pattern(binary32::round(x) as u64),
+            0x14 => Answer::pattern(binary32::nearbyint(x) as u64),
+            0x16 => Answer::pattern(Binary32::fabs(x) as u64),
+            0x17 => Answer::pattern(Binary32::negate(x) as u64),
+            0x18 => Answer::integer(binary32::lround(x)),
+            0x19 => Answer::class(Binary32::classify(x)),
+            _ => Answer::unknown(),
+        }
+    }
+}

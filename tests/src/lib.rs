@@ -1,0 +1,16 @@
+//! Tests of the Estrenwind library against an independent second implementation.
+//!
+//! The second implementation is `reference`, in exact whole numbers, written from document 01.
+//! `functions` is the table that joins it with the library: every test walks over that table, so a
+//! new function is a new row.
+
+pub mod answer;
+pub mod comparison;
+#[cfg(target_arch = "x86_64")]
+pub mod environment;
+pub mod functions;
+pub mod library;
+pub mod operands;
+pub mod patterns;
+pub mod reference;
+pub mod vectors;

@@ -1,0 +1,13 @@
+//! The independent second implementation, from document 01 and without a look at the crates.
+//!
+//! A finite pattern stands for a signed whole number of units (2^-1074 for f64, 2^-149 for f32),
+//! and every function is worked on these whole numbers. There is no floating-point operation in
+//! here, and no trick on patterns: a result is a whole number first and turned into its pattern
+//! last.
+
+pub mod format;
+pub mod natural;
+pub mod rounding;
+pub mod short;
+
+pub use format::{Class, Format, BINARY32, BINARY64};

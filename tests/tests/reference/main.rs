@@ -1,0 +1,7 @@
+//! The reference against the statements of document 01, mostly on formats so small that every
+//! pattern is tried.
+
+mod counting;
+mod format;
+mod rounding;
+mod short;

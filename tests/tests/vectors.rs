@@ -1,0 +1,79 @@
+//! The cases of `vectors/` through the library, and the lines that programs exchange.
+
+use estrenwind_tests::functions::{FORMATS, FUNCTIONS};
+use estrenwind_tests::vectors::cases;
+use std::collections::HashSet;
+use std::process::Command;
+
+#[test]
+fn the_library_answers_as_the_reference_does() {
+    for case in cases() {
+        let [x, y] = case.operands;
+        let answer = case.function.library(case.format)(x, y);
+        assert_eq!(answer, case.expected(), "{}", case.input_line());
+    }
+}
+
+#[test]
+fn every_function_has_cases_at_every_width() {
+    for function in &FUNCTIONS {
+        for format in &FORMATS {
+            let (name, width) = (function.name, format.width());
+            let has_case = cases()
+                .iter()
+                .any(|case| case.function.name == name && case.format == format);
+            assert!(has_case, "{name} {width}");
+        }
+    }
+}
+
+fn printed(what: &str) -> String {
+    let program = Command::new(env!("CARGO_BIN_EXE_vectors"))
+        .arg(what)
+        .output()
+        .unwrap();
+    assert!(program.status.success());
+    String::from_utf8(program.stdout).unwrap()
+}
+
+/// The two texts go line by line together, and these lines are known without the reference.
+#[test]
+fn the_program_prints_lines_of_fixed_width() {
+    let (input, output) = (printed("stdin"), printed("stdout"));
+    assert!(input.split_inclusive('\n').all(|line| line.len() == 40));
+    assert!(output.split_inclusive('\n').all(|line| line.len() == 37));
+    let lines: HashSet<(&str, &str)> = input.lines().zip(output.lines()).collect();
+    assert_eq!(input.lines().count(), output.lines().count());
+    for (case, answer) in [
+        (
+            "10 40 bfe0000000000000 0000000000000000",
+            "00 bff0000000000000 0000000000000000",
+        ),
+        (
+            "11 20 00000000bf000000 0000000000000000",
+            "00 0000000080000000 0000000000000000",
+        ),
+        (
+            "18 40 c3e0000000000000 0000000000000000",
+            "00 8000000000000000 0000000000000000",
+        ),
+        (
+            "18 40 43e0000000000000 0000000000000000",
+            "03 0000000000000000 0000000000000000",
+        ),
+        (
+            "18 40 7ff8000000000000 0000000000000000",
+            "01 0000000000000000 0000000000000000",
+        ),
+        (
+            "18 20 00000000c0200000 0000000000000000",
+            "00 fffffffffffffffd 0000000000000000",
+        ),
+        (
+            "19 20 000000007f800000 0000000000000000",
+            "00 0000000000000001 0000000000000000",
+        ),
+    ] {
+        assert!(lines.contains(&(case, answer)), "{case} -> {answer}");
+    }
+}
