@@ -112,7 +112,7 @@ answer f d s a v h =
 
 -- ---- the answer is a pattern of the format
 
-quieted-lt : (f : Format) (x : ℕ) → Valid f → x < 2 * signBit f → quieted f x < 2 * signBit f
+pub quieted-lt : (f : Format) (x : ℕ) → Valid f → x < 2 * signBit f → quieted f x < 2 * signBit f
 unfolding quieted
 quieted-lt f x v p =
     let twice : 2 ^ (f .exponent + f .fraction + 1) ≡ 2 * signBit f = pow-add 2 (f .exponent + f .fraction) 1 ∙ omega arith in

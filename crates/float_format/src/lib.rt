@@ -38,6 +38,19 @@ pub enum Direction {
     HalfEven,
 }
 
+// What a function that may refuse answers: a pattern, and the number of the refusal, 0 where there is none.
+#[repr(C)]
+pub struct Word64 {
+    pub word: u64,
+    pub refusal: u64,
+}
+
+#[repr(C)]
+pub struct Word32 {
+    pub word: u32,
+    pub refusal: u64,
+}
+
 // binary64: f64's patterns, as u64.
 pub struct Binary64 {}
 

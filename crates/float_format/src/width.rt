@@ -1,9 +1,9 @@
 // A format's numbers with the width open: `fraction` and `exponent` are its field sizes, which each width's module hands over as
 // numbers, so that the compiler folds all of this. Not entry points: each asks that a pattern fits a word.
 ghost use mathlib.Core.Path.{_≡_};
-ghost use Prim.Native.Nat.{_*_, _^_, _<_, _≤_};
-ghost use Rattle.float_format.specs.Format.{signBit, topField, exponentField};
-ghost use Rattle.float_format.specs.Number.{bias};
+ghost use Prim.Native.Nat.{_-_, _*_, _%_, _^_, _<_, _≤_};
+ghost use Rattle.float_format.specs.Format.{signBit, topField, infinity, unsigned, exponentField, quieted};
+ghost use Rattle.float_format.specs.Number.{encode, bias};
 ghost use Rattle.float_format.specs.Width.{format, InWord};
 
 pub fn power(k: u64) -> u64
@@ -34,6 +34,13 @@ pub fn bias_of(fraction: u64, exponent: u64) -> u64
     power(exponent - 1) - 1
 }
 
+pub fn infinity_of(fraction: u64, exponent: u64) -> u64
+    requires { ⌜ InWord (format fraction exponent) ⌝ }
+    ensures { λ r. ⌜ r ≡ infinity (format fraction exponent) ⌝ }
+{
+    top_field(fraction, exponent) * power(fraction)
+}
+
 // The pattern of 1.
 pub fn one(fraction: u64, exponent: u64) -> u64
     requires { ⌜ InWord (format fraction exponent) ⌝ }
@@ -47,4 +54,49 @@ pub fn field(fraction: u64, exponent: u64, x: u64) -> u64
     ensures { λ r. ⌜ (r ≡ exponentField (format fraction exponent) x) × (r ≤ topField (format fraction exponent)) ⌝ }
 {
     (x >> fraction) % power(exponent)
+}
+
+// x without its sign.
+pub fn rest(fraction: u64, exponent: u64, x: u64) -> u64
+    requires { ⌜ InWord (format fraction exponent) ⌝ }
+    ensures { λ r. ⌜ r ≡ unsigned (format fraction exponent) x ⌝ }
+{
+    x % sign_bit(fraction, exponent)
+}
+
+// The zero of x's sign.
+pub fn signed_zero(fraction: u64, exponent: u64, x: u64) -> u64
+    requires { ⌜ InWord (format fraction exponent) ⌝ }
+    ensures { λ r. ⌜ r ≡ x - x % signBit (format fraction exponent) ⌝ }
+{
+    x - x % sign_bit(fraction, exponent)
+}
+
+// x with the top fraction bit set.
+pub fn quiet(fraction: u64, exponent: u64, x: u64) -> u64
+    requires { ⌜ InWord (format fraction exponent) × (x < 2 * signBit (format fraction exponent)) ⌝ }
+    ensures { λ r. ⌜ (r ≡ quieted (format fraction exponent) x) × (r < 2 * signBit (format fraction exponent)) ⌝ }
+{
+    x | power(fraction - 1)
+}
+
+// How far the leading one of m stands below the place of a normal number's: the one way that a number comes to its leading one.
+pub fn leading_shift(fraction: u64, m: u64) -> u64
+    requires { ⌜ (fraction < 62) × (0 < m) × (m < 2 * 2 ^ fraction) ⌝ }
+    ensures { λ r. ⌜ (r ≤ fraction) × (2 ^ fraction ≤ m * 2 ^ r) × (m * 2 ^ r < 2 * 2 ^ fraction) ⌝ }
+{
+    u64::leading_zeros(m) as u64 - (63 - fraction)
+}
+
+// The pattern, without a sign, of m * 2^scale units.
+pub fn encoded(fraction: u64, exponent: u64, m: u64, scale: u64) -> u64
+    requires { ⌜ InWord (format fraction exponent) × (m < 2 * 2 ^ fraction) × (scale < topField (format fraction exponent)) ⌝ }
+    ensures { λ r. ⌜ (r ≡ encode fraction (m * 2 ^ scale)) × (r < signBit (format fraction exponent)) ⌝ }
+{
+    if m == 0 {
+        return 0;
+    }
+    let k = leading_shift(fraction, m);
+    let shift = if k < scale { k } else { scale };
+    (scale - shift) * power(fraction) + m * power(shift)
 }

@@ -20,6 +20,7 @@ use float_format::width::field;
 use float_format::width::one;
 use float_format::width::power;
 use float_format::width::sign_bit;
+use float_format::width::signed_zero;
 use float_format::width::top_field;
 
 pub mod binary32;
@@ -91,14 +92,6 @@ fn not_finite(fraction: u64, exponent: u64, x: u64) -> u64
     } else {
         x | power(fraction - 1)
     }
-}
-
-// The zero of x's sign.
-fn signed_zero(fraction: u64, exponent: u64, x: u64) -> u64
-    requires { ⌜ InWord (format fraction exponent) ⌝ }
-    ensures { λ r. ⌜ r ≡ x - x % signBit (format fraction exponent) ⌝ }
-{
-    cut(x, sign_bit(fraction, exponent))
 }
 
 // ---- floor
