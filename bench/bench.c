@@ -28,19 +28,26 @@ static const double QUIET = 1.1, SECONDS = 120;
 
 /* ---- data ---- */
 
+typedef union { uint64_t bits[COUNT]; double values[COUNT]; } operands64;
+typedef union { uint32_t bits[COUNT]; float values[COUNT]; } operands32;
+
+/* x, the second operand y of a function of two numbers, and the n of ldexp. */
 typedef struct {
     const char *name;
-    union { uint64_t bits[COUNT]; double values[COUNT]; } f64;
-    union { uint32_t bits[COUNT]; float values[COUNT]; } f32;
+    operands64 x64, y64;
+    operands32 x32, y32;
+    int n64[COUNT], n32[COUNT];
 } data_set;
 
-enum { TEXTURE, MIXED, SUBNORMAL, SPECIAL, SETS };
+enum { TEXTURE, MIXED, SUBNORMAL, SPECIAL, FAR, TINY, SETS };
 
 static data_set sets[SETS] = {
-    {.name = "texture-like: -4096 to 4096, with fractions"},
-    {.name = "mixed magnitudes: half of them about where rounding happens, a quarter smaller, a quarter larger"},
-    {.name = "subnormal"},
+    {.name = "texture-like: x in -4096 to 4096, with fractions; y in 0.5 to 64; n in -16 to 16"},
+    {.name = "mixed magnitudes: half of them about where rounding happens, a quarter smaller, a quarter larger; any n that reaches"},
+    {.name = "subnormal; n in -16 to 16"},
     {.name = "texture-like, one in ten infinite or NaN"},
+    {.name = "exponents far apart: x in the top quarter of the exponents, y in the lowest"},
+    {.name = "texture-like x, subnormal y"},
 };
 
 static uint64_t random_bits(void)
@@ -52,41 +59,71 @@ static uint64_t random_bits(void)
     return state * 0x2545f4914f6cdd1du;
 }
 
+/* From 0 to below 1. */
+static double random_part(void) { return (double)(random_bits() >> 11) * 0x1p-53; }
+
 /* Both widths' patterns from an exponent field and random signs and fractions. */
-static void put(data_set *set, int i, uint64_t e64, uint32_t e32)
+static void put(operands64 *f64, operands32 *f32, int i, uint64_t e64, uint32_t e32)
 {
     const uint64_t r = random_bits();
-    set->f64.bits[i] = (r & 0x8000000000000000u) | e64 << 52 | random_bits() >> 12;
-    set->f32.bits[i] = (uint32_t)(r >> 32 & 0x80000000u) | e32 << 23 | (uint32_t)(random_bits() >> 41);
+    f64->bits[i] = (r & 0x8000000000000000u) | e64 << 52 | random_bits() >> 12;
+    f32->bits[i] = (uint32_t)(r >> 32 & 0x80000000u) | e32 << 23 | (uint32_t)(random_bits() >> 41);
 }
 
-static void put_texture(data_set *set, int i)
+static void put_between(operands64 *f64, operands32 *f32, int i, double low, double high)
 {
-    const double x = ((double)(random_bits() >> 11) * 0x1p-53) * 8192 - 4096;
-    set->f64.values[i] = x;
-    set->f32.values[i] = (float)x;
+    const double x = low + random_part() * (high - low);
+    f64->values[i] = x;
+    f32->values[i] = (float)x;
+}
+
+static void put_mixed(operands64 *f64, operands32 *f32, int i)
+{
+    switch (random_bits() % 4) {
+    case 0: put(f64, f32, i, 1 + random_bits() % 1014, (uint32_t)(1 + random_bits() % 118)); break;
+    case 1: put(f64, f32, i, 1085 + random_bits() % 962, (uint32_t)(160 + random_bits() % 95)); break;
+    default: put(f64, f32, i, 1015 + random_bits() % 70, (uint32_t)(119 + random_bits() % 41)); break;
+    }
+}
+
+static void put_special(operands64 *f64, operands32 *f32, int i)
+{
+    put(f64, f32, i, 2047, 255);
+    if (random_bits() % 2 == 0) {
+        f64->bits[i] &= 0xfff0000000000000u;
+        f32->bits[i] &= 0xff800000u;
+    }
 }
 
 static void fill(void)
 {
-    int i;
+    int i, s;
     for (i = 0; i < COUNT; i++) {
-        put_texture(&sets[TEXTURE], i);
-        switch (random_bits() % 4) {
-        case 0: put(&sets[MIXED], i, 1 + random_bits() % 1014, (uint32_t)(1 + random_bits() % 118)); break;
-        case 1: put(&sets[MIXED], i, 1085 + random_bits() % 962, (uint32_t)(160 + random_bits() % 95)); break;
-        default: put(&sets[MIXED], i, 1015 + random_bits() % 70, (uint32_t)(119 + random_bits() % 41)); break;
+        data_set *set;
+        for (s = 0; s < SETS; s++) {
+            set = &sets[s];
+            put_between(&set->x64, &set->x32, i, -4096, 4096);
+            put_between(&set->y64, &set->y32, i, 0.5, 64);
+            set->n64[i] = set->n32[i] = (int)(random_bits() % 33) - 16;
         }
-        put(&sets[SUBNORMAL], i, 0, 0);
-        if (random_bits() % 10 == 0) {
-            put(&sets[SPECIAL], i, 2047, 255);
-            if (random_bits() % 2 == 0) {
-                sets[SPECIAL].f64.bits[i] &= 0xfff0000000000000u;
-                sets[SPECIAL].f32.bits[i] &= 0xff800000u;
-            }
-        } else {
-            put_texture(&sets[SPECIAL], i);
-        }
+        set = &sets[MIXED];
+        put_mixed(&set->x64, &set->x32, i);
+        put_mixed(&set->y64, &set->y32, i);
+        set->n64[i] = (int)(random_bits() % 4200) - 2100;
+        set->n32[i] = (int)(random_bits() % 600) - 300;
+        set = &sets[SUBNORMAL];
+        put(&set->x64, &set->x32, i, 0, 0);
+        put(&set->y64, &set->y32, i, 0, 0);
+        set = &sets[SPECIAL];
+        if (random_bits() % 10 == 0)
+            put_special(&set->x64, &set->x32, i);
+        if (random_bits() % 10 == 0)
+            put_special(&set->y64, &set->y32, i);
+        set = &sets[FAR];
+        put(&set->x64, &set->x32, i, 1535 + random_bits() % 512, (uint32_t)(191 + random_bits() % 64));
+        put(&set->y64, &set->y32, i, 1 + random_bits() % 511, (uint32_t)(1 + random_bits() % 63));
+        set = &sets[TINY];
+        put(&set->y64, &set->y32, i, 0, 0);
     }
 }
 
@@ -97,86 +134,153 @@ typedef uint64_t loop(anything *, const data_set *);
 
 #define ALONE __attribute__((noinline, noipa))
 
-#define LOOP(name, function_type, operands, fold)                       \
+/* Folds what `statement` makes of the i-th operands into `sum`. */
+#define LOOP(name, statement)                                           \
     static ALONE uint64_t name(anything *function, const data_set *set) \
     {                                                                   \
-        function_type *call = (function_type *)function;                \
         uint64_t sum = 0;                                               \
         int i;                                                          \
-        for (i = 0; i < COUNT; i++)                                     \
-            sum ^= fold(call(set->operands[i]));                        \
+        (void)function;                                                 \
+        for (i = 0; i < COUNT; i++) {                                   \
+            statement;                                                  \
+        }                                                               \
         return sum;                                                     \
     }
 
-static inline uint64_t itself(uint64_t x) { return x; }
-static inline uint64_t of_long(long x) { return (uint64_t)x; }
-static inline uint64_t of_whole(ew_whole x) { return (uint64_t)x.value ^ x.refusal; }
+#define CALL(type) ((type *)function)
 
+/* A shape's loops: over patterns and over values, through a pointer, at both widths. */
 typedef uint64_t word64(uint64_t);
 typedef uint32_t word32(uint32_t);
 typedef double real64(double);
 typedef float real32(float);
-LOOP(word_patterns64, word64, f64.bits, itself)
-LOOP(word_patterns32, word32, f32.bits, itself)
-LOOP(word_values64, real64, f64.values, ew_bits_f64)
-LOOP(word_values32, real32, f32.values, ew_bits_f32)
+LOOP(word_patterns64, sum ^= CALL(word64)(set->x64.bits[i]))
+LOOP(word_patterns32, sum ^= CALL(word32)(set->x32.bits[i]))
+LOOP(word_values64, sum ^= ew_bits_f64(CALL(real64)(set->x64.values[i])))
+LOOP(word_values32, sum ^= ew_bits_f32(CALL(real32)(set->x32.values[i])))
 
 typedef ew_whole whole64(uint64_t);
 typedef ew_whole whole32(uint32_t);
 typedef long long64(double);
 typedef long long32(float);
-LOOP(whole_patterns64, whole64, f64.bits, of_whole)
-LOOP(whole_patterns32, whole32, f32.bits, of_whole)
-LOOP(whole_values64, long64, f64.values, of_long)
-LOOP(whole_values32, long32, f32.values, of_long)
+static inline uint64_t of_whole(ew_whole r) { return (uint64_t)r.value ^ r.refusal; }
+LOOP(whole_patterns64, sum ^= of_whole(CALL(whole64)(set->x64.bits[i])))
+LOOP(whole_patterns32, sum ^= of_whole(CALL(whole32)(set->x32.bits[i])))
+LOOP(whole_values64, sum ^= (uint64_t)CALL(long64)(set->x64.values[i]))
+LOOP(whole_values32, sum ^= (uint64_t)CALL(long32)(set->x32.values[i]))
+
+typedef ew_parts64 parts64(uint64_t);
+typedef ew_parts32 parts32(uint32_t);
+typedef double modf64(double, double *);
+typedef float modf32(float, float *);
+LOOP(parts_patterns64, ew_parts64 r = CALL(parts64)(set->x64.bits[i]); sum ^= r.whole ^ r.fraction)
+LOOP(parts_patterns32, ew_parts32 r = CALL(parts32)(set->x32.bits[i]); sum ^= r.whole ^ r.fraction)
+LOOP(parts_values64, double w; sum ^= ew_bits_f64(CALL(modf64)(set->x64.values[i], &w)); sum ^= ew_bits_f64(w))
+LOOP(parts_values32, float w; sum ^= ew_bits_f32(CALL(modf32)(set->x32.values[i], &w)); sum ^= ew_bits_f32(w))
+
+typedef ew_frexp64 split64(uint64_t);
+typedef ew_frexp32 split32(uint32_t);
+typedef double frexp64(double, int *);
+typedef float frexp32(float, int *);
+LOOP(frexp_patterns64, ew_frexp64 r = CALL(split64)(set->x64.bits[i]); sum ^= r.fraction ^ (uint64_t)r.exponent)
+LOOP(frexp_patterns32, ew_frexp32 r = CALL(split32)(set->x32.bits[i]); sum ^= r.fraction ^ (uint64_t)r.exponent)
+LOOP(frexp_values64, int e; sum ^= ew_bits_f64(CALL(frexp64)(set->x64.values[i], &e)); sum ^= (uint64_t)e)
+LOOP(frexp_values32, int e; sum ^= ew_bits_f32(CALL(frexp32)(set->x32.values[i], &e)); sum ^= (uint64_t)e)
+
+typedef ew_word64 scale64(uint64_t, int64_t);
+typedef ew_word32 scale32(uint32_t, int64_t);
+typedef double ldexp64(double, int);
+typedef float ldexp32(float, int);
+LOOP(scale_patterns64, ew_word64 r = CALL(scale64)(set->x64.bits[i], set->n64[i]); sum ^= r.word ^ r.refusal)
+LOOP(scale_patterns32, ew_word32 r = CALL(scale32)(set->x32.bits[i], set->n32[i]); sum ^= r.word ^ r.refusal)
+LOOP(scale_values64, sum ^= ew_bits_f64(CALL(ldexp64)(set->x64.values[i], set->n64[i])))
+LOOP(scale_values32, sum ^= ew_bits_f32(CALL(ldexp32)(set->x32.values[i], set->n32[i])))
+
+typedef ew_word64 pair64(uint64_t, uint64_t);
+typedef ew_word32 pair32(uint32_t, uint32_t);
+typedef uint64_t choice64(uint64_t, uint64_t);
+typedef uint32_t choice32(uint32_t, uint32_t);
+typedef double reals64(double, double);
+typedef float reals32(float, float);
+LOOP(pair_patterns64, ew_word64 r = CALL(pair64)(set->x64.bits[i], set->y64.bits[i]); sum ^= r.word ^ r.refusal)
+LOOP(pair_patterns32, ew_word32 r = CALL(pair32)(set->x32.bits[i], set->y32.bits[i]); sum ^= r.word ^ r.refusal)
+LOOP(pair_values64, sum ^= ew_bits_f64(CALL(reals64)(set->x64.values[i], set->y64.values[i])))
+LOOP(pair_values32, sum ^= ew_bits_f32(CALL(reals32)(set->x32.values[i], set->y32.values[i])))
+LOOP(choice_patterns64, sum ^= CALL(choice64)(set->x64.bits[i], set->y64.bits[i]))
+LOOP(choice_patterns32, sum ^= CALL(choice32)(set->x32.bits[i], set->y32.bits[i]))
+#define choice_values64 pair_values64
+#define choice_values32 pair_values32
 
 static ALONE uint64_t identity(uint64_t x) { return x; }
 
-/* The header's forms on values. The operand and a value answer are held in floating-point registers, as they are in a program. */
+/* The header's forms on values. Operands and value answers are held in floating-point registers, as they are in a program. */
 #define HOLD(x) __asm__("" : "+x"(x))
+#define GIVEN1(type, width) type x = set->x##width.values[i]; HOLD(x)
+#define GIVEN2(type, width) GIVEN1(type, width); type y = set->y##width.values[i]; HOLD(y)
+#define TAKEN(width, value) HOLD(value); sum ^= ew_bits_f##width(value)
 
-#define HEADER_LOOP(name, type, operands, statement)                  \
-    static ALONE uint64_t name(anything *unused, const data_set *set) \
-    {                                                                 \
-        uint64_t sum = 0;                                             \
-        int i;                                                        \
-        (void)unused;                                                 \
-        for (i = 0; i < COUNT; i++) {                                 \
-            type x = set->operands[i];                                \
-            HOLD(x);                                                  \
-            statement;                                                \
-        }                                                             \
-        return sum;                                                   \
-    }
-
-#define WORD(name, limit, lead)                                                                               \
-    HEADER_LOOP(header64_##name, double, f64.values, double r = ew_##name(x); HOLD(r); sum ^= ew_bits_f64(r)) \
-    HEADER_LOOP(header32_##name, float, f32.values, float r = ew_##name##f(x); HOLD(r); sum ^= ew_bits_f32(r))
-#define WHOLE(name, limit, lead)                                                    \
-    HEADER_LOOP(header64_##name, double, f64.values, sum ^= of_whole(ew_##name(x))) \
-    HEADER_LOOP(header32_##name, float, f32.values, sum ^= of_whole(ew_##name##f(x)))
+#define HEADER(name, width, type, suffix, given, answer, call, taken) \
+    LOOP(header##width##_##name, given(type, width); answer r = ew_##name##suffix call; taken)
+#define WORD(name, ...)                                                                        \
+    HEADER(name, 64, double, , GIVEN1, double, (x), TAKEN(64, r))                               \
+    HEADER(name, 32, float, f, GIVEN1, float, (x), TAKEN(32, r))
+#define WHOLE(name, ...)                                                                       \
+    HEADER(name, 64, double, , GIVEN1, ew_whole, (x), sum ^= of_whole(r))                       \
+    HEADER(name, 32, float, f, GIVEN1, ew_whole, (x), sum ^= of_whole(r))
+#define PARTS(name, ...)                                                                                              \
+    HEADER(name, 64, double, , GIVEN1, ew_double_parts, (x), TAKEN(64, r.whole); TAKEN(64, r.fraction))                \
+    HEADER(name, 32, float, f, GIVEN1, ew_float_parts, (x), TAKEN(32, r.whole); TAKEN(32, r.fraction))
+#define FREXP(name, ...)                                                                                              \
+    HEADER(name, 64, double, , GIVEN1, ew_double_frexp, (x), TAKEN(64, r.fraction); sum ^= (uint64_t)r.exponent)       \
+    HEADER(name, 32, float, f, GIVEN1, ew_float_frexp, (x), TAKEN(32, r.fraction); sum ^= (uint64_t)r.exponent)
+#define SCALE(name, ...)                                                                                              \
+    HEADER(name, 64, double, , GIVEN1, ew_double, (x, set->n64[i]), TAKEN(64, r.value); sum ^= r.refusal)              \
+    HEADER(name, 32, float, f, GIVEN1, ew_float, (x, set->n32[i]), TAKEN(32, r.value); sum ^= r.refusal)
+#define REMAINDER(name, ...)                                                                                          \
+    HEADER(name, 64, double, , GIVEN2, ew_double, (x, y), TAKEN(64, r.value); sum ^= r.refusal)                        \
+    HEADER(name, 32, float, f, GIVEN2, ew_float, (x, y), TAKEN(32, r.value); sum ^= r.refusal)
+#define STEP REMAINDER
+#define CHOICE(name, ...)                                                                      \
+    HEADER(name, 64, double, , GIVEN2, double, (x, y), TAKEN(64, r))                            \
+    HEADER(name, 32, float, f, GIVEN2, float, (x, y), TAKEN(32, r))
 FUNCTIONS
 #undef WORD
 #undef WHOLE
+#undef PARTS
+#undef FREXP
+#undef SCALE
+#undef REMAINDER
+#undef STEP
+#undef CHOICE
 
 /* ---- what is compared ---- */
 
 /* A library that is not installed leaves its weak names at 0, and its column empty. (The header's loops name their functions
    themselves; identity only stands in their place.) */
-#define REFERENCES(prefix, type64, type32, name)      \
-    extern __attribute__((weak)) type64 prefix##name; \
-    extern __attribute__((weak)) type32 prefix##name##f;
-#define WORD(name, limit, lead)             \
-    REFERENCES(musl_, real64, real32, name) \
-    REFERENCES(newlib_, real64, real32, name)
-#define WHOLE(name, limit, lead)            \
-    REFERENCES(musl_, long64, long32, name) \
-    REFERENCES(newlib_, long64, long32, name)
+#define REFERENCES(name)                                \
+    extern __attribute__((weak)) anything musl_##name;    \
+    extern __attribute__((weak)) anything musl_##name##f; \
+    extern __attribute__((weak)) anything newlib_##name;  \
+    extern __attribute__((weak)) anything newlib_##name##f;
+#define WORD(name, ...) REFERENCES(name)
+#define WHOLE(name, ...) REFERENCES(name)
+#define PARTS(name, ...) REFERENCES(name)
+#define FREXP(name, ...) REFERENCES(name)
+#define SCALE(name, ...) REFERENCES(name)
+#define REMAINDER(name, ...) REFERENCES(name)
+#define STEP(name, ...) REFERENCES(name)
+#define CHOICE(name, ...) REFERENCES(name)
 FUNCTIONS
 #undef WORD
 #undef WHOLE
+#undef PARTS
+#undef FREXP
+#undef SCALE
+#undef REMAINDER
+#undef STEP
+#undef CHOICE
 
-enum { OURS, HEADER, GLIBC, MUSL, NEWLIB, COLUMNS };
+enum { OURS, HEADERS, GLIBC, MUSL, NEWLIB, COLUMNS };
 
 typedef struct {
     loop *run;
@@ -185,27 +289,38 @@ typedef struct {
     double samples[SETS][SAMPLES];
 } measure;
 
+/* What is asked: at most `limit` times glibc's time on texture-like data, `mixed` times each library's on mixed data, `far` times
+   glibc's on the sets after SPECIAL, and musl's time at least `lead` times ours. 0 asks nothing. */
 static struct {
     const char *name;
     int width;
-    double limit, lead;
+    double limit, lead, mixed, far;
     measure measures[COLUMNS];
 } rows[] = {
-#define ROW(name, suffix, width, kind, limit, lead)                                  \
-    {#name, width, limit, lead,                                                      \
+#define ROW(name, suffix, width, kind, limit, lead, mixed, far)                      \
+    {#name, width, limit, lead, mixed, far,                                          \
      {{.run = kind##_patterns##width, .function = (anything *)ew_##name##_f##width}, \
       {.run = header##width##_##name, .function = (anything *)identity},             \
       {.run = kind##_values##width, .function = (anything *)name##suffix},           \
-      {.run = kind##_values##width, .function = (anything *)musl_##name##suffix},    \
-      {.run = kind##_values##width, .function = (anything *)newlib_##name##suffix}}},
-#define WORD(name, limit, lead) ROW(name, , 64, word, limit, lead) ROW(name, f, 32, word, limit, lead)
-#define WHOLE(name, limit, lead) ROW(name, , 64, whole, limit, lead) ROW(name, f, 32, whole, limit, lead)
+      {.run = kind##_values##width, .function = musl_##name##suffix},                \
+      {.run = kind##_values##width, .function = newlib_##name##suffix}}},
+#define BOTH(name, kind, limit, lead, mixed, far) \
+    ROW(name, , 64, kind, limit, lead, mixed, far) ROW(name, f, 32, kind, limit, lead, mixed, (far) == 0 ? 0 : limit)
+#define WORD(name, limit, lead) BOTH(name, word, limit, lead, limit + MIXED_ALLOWANCE, 0)
+#define WHOLE(name, limit, lead) BOTH(name, whole, limit, lead, limit + MIXED_ALLOWANCE, 0)
+#define PARTS(name, limit) BOTH(name, parts, limit, 0, 0, 0)
+#define FREXP(name, limit) BOTH(name, frexp, limit, 0, 0, 0)
+#define SCALE(name, limit) BOTH(name, scale, limit, 0, 0, 0)
+#define REMAINDER(name, limit, far) BOTH(name, pair, limit, 0, 0, far)
+#define STEP(name, limit) BOTH(name, pair, limit, 0, 0, 0)
+#define CHOICE(name, limit) BOTH(name, choice, limit, 0, 0, 0)
     FUNCTIONS
-#undef WORD
-#undef WHOLE
 };
 
 enum { ROWS = sizeof rows / sizeof rows[0] };
+
+/* The sets after SPECIAL are for remainders alone. */
+static int takes(int row, int set) { return set <= SPECIAL || rows[row].far != 0; }
 
 /* ---- measuring ---- */
 
@@ -257,7 +372,7 @@ static int repeat(void)
             for (c = 0; c < COLUMNS; c++) {
                 measure *m = &rows[r].measures[c];
                 double t, after;
-                if (m->function == NULL || m->counts[s] == SAMPLES)
+                if (m->function == NULL || m->counts[s] == SAMPLES || !takes(r, s))
                     continue;
                 left = 1;
                 t = time_of(m->run, m->function, &sets[s]);
@@ -342,7 +457,7 @@ static void print_set(int set, int width)
            "newlib", "/glibc", "/musl", "/newlib");
     for (r = 0; r < ROWS; r++) {
         figures f;
-        if (rows[r].width != width)
+        if (rows[r].width != width || !takes(r, set))
             continue;
         f = figures_of(r, set);
         printf("%-10s", rows[r].name);
@@ -365,25 +480,38 @@ static int hold(double figure, const char *relation, double asked)
     return missed && !isnan(figure);
 }
 
+static double ratio(int row, int set, int column)
+{
+    const figures f = figures_of(row, set);
+    return f.medians[OURS] / f.medians[column];
+}
+
+/* A ratio that is asked for, or a dash. */
+static int hold_ratio(int row, int set, int column, double most)
+{
+    return hold(most == 0 ? NAN : ratio(row, set, column), "<=", most);
+}
+
 static int print_targets(void)
 {
     int r, missed_rows = 0;
     printf("\ntargets, medians in this run\n");
-    printf("%-14s  %14s  %14s  %14s  %14s  %14s\n", "", "texture/glibc", "musl/texture", "mixed/glibc", "mixed/musl",
-           "mixed/newlib");
+    printf("%-14s  %14s  %14s  %14s  %14s  %14s  %14s  %14s\n", "", "texture/glibc", "musl/texture", "mixed/glibc", "mixed/musl",
+           "mixed/newlib", "far/glibc", "tiny y/glibc");
     for (r = 0; r < ROWS; r++) {
-        const figures texture = figures_of(r, TEXTURE), mixed = figures_of(r, MIXED);
-        const double allowed = rows[r].limit + MIXED_ALLOWANCE;
+        const double musl = figures_of(r, TEXTURE).medians[MUSL];
         int missed = 0;
         printf("f%d %-10s", rows[r].width, rows[r].name);
-        missed |= hold(texture.medians[OURS] / texture.medians[GLIBC], "<=", rows[r].limit);
-        missed |= hold(rows[r].lead == 0 ? NAN : texture.medians[MUSL] / texture.medians[OURS], ">=", rows[r].lead);
-        missed |= hold(mixed.medians[OURS] / mixed.medians[GLIBC], "<=", allowed);
-        missed |= hold(mixed.medians[OURS] / mixed.medians[MUSL], "<=", allowed);
-        missed |= hold(mixed.medians[OURS] / mixed.medians[NEWLIB], "<=", allowed);
+        missed |= hold_ratio(r, TEXTURE, GLIBC, rows[r].limit);
+        missed |= hold(rows[r].lead == 0 ? NAN : 1 / ratio(r, TEXTURE, MUSL), ">=", rows[r].lead);
+        missed |= hold_ratio(r, MIXED, GLIBC, rows[r].mixed);
+        missed |= hold_ratio(r, MIXED, MUSL, rows[r].mixed);
+        missed |= hold_ratio(r, MIXED, NEWLIB, rows[r].mixed);
+        missed |= hold_ratio(r, FAR, GLIBC, rows[r].far);
+        missed |= hold_ratio(r, TINY, GLIBC, rows[r].far);
         printf("  %s", missed ? "MISSED" : "target met");
-        if (texture.medians[MUSL] < fastest * rows[r].lead)
-            printf(" (musl's %.2f ns: even the identity call is not %g times as fast)", texture.medians[MUSL], rows[r].lead);
+        if (musl < fastest * rows[r].lead)
+            printf(" (musl's %.2f ns: even the identity call is not %g times as fast)", musl, rows[r].lead);
         putchar('\n');
         missed_rows += missed;
     }
@@ -396,7 +524,7 @@ static int too_few(void)
     for (r = 0; r < ROWS; r++)
         for (c = 0; c < COLUMNS; c++)
             for (s = 0; s < SETS; s++)
-                if (rows[r].measures[c].function != NULL && rows[r].measures[c].counts[s] < ENOUGH)
+                if (rows[r].measures[c].function != NULL && takes(r, s) && rows[r].measures[c].counts[s] < ENOUGH)
                     return 1;
     return 0;
 }

@@ -1,17 +1,26 @@
 /*
- * The functions that are timed, one row each: its name, the most that it may take as a multiple of glibc's time, and the least
- * factor by which it must be faster than musl's (0: nothing is asked). Both are for texture-like data.
+ * The functions that are timed, one row each: its shape, its name, and the most that it may take as a multiple of glibc's time on
+ * texture-like data. Then, of a rounding, the least factor by which it must be faster than musl's (0: nothing is asked), and, of
+ * a remainder, the multiple allowed where the exponents lie far apart and where the divisor is subnormal, in f64.
  *
- * WORD: a pattern to a pattern. WHOLE: a pattern to a whole number. A function of another shape needs a name here and its loops in
- * bench.c. references.sh reads the names from these rows.
+ * The shapes, which bench.c has loops for: WORD, a pattern to a pattern; WHOLE, to a whole number; PARTS, to two patterns; FREXP, to a
+ * pattern and an exponent; SCALE, a pattern and a number to a pattern that may be refused; REMAINDER and STEP, two patterns to such a
+ * one; CHOICE, two patterns to a pattern. references.sh reads the names from these rows.
  */
-#define FUNCTIONS             \
-    WORD(floor, 2.2, 2.0)     \
-    WORD(ceil, 2.2, 2.0)      \
-    WORD(trunc, 2.0, 0)       \
-    WORD(round, 0.95, 2.0)    \
-    WORD(nearbyint, 2.4, 2.0) \
-    WHOLE(lround, 1.0, 0)
+#define FUNCTIONS                \
+    WORD(floor, 2.2, 2.0)        \
+    WORD(ceil, 2.2, 2.0)         \
+    WORD(trunc, 2.0, 0)          \
+    WORD(round, 0.95, 2.0)       \
+    WORD(nearbyint, 2.4, 2.0)    \
+    WHOLE(lround, 1.0, 0)        \
+    PARTS(modf, 1.0)             \
+    FREXP(frexp, 0.8)            \
+    SCALE(ldexp, 0.6)            \
+    REMAINDER(fmod, 0.4, 0.3)    \
+    STEP(nextafter, 0.5)         \
+    CHOICE(fmin, 1.3)            \
+    CHOICE(fmax, 1.3)
 
-/* On data of mixed magnitudes the same multiple is allowed and one half more, of each library. */
+/* A rounding may take the same multiple and one half more on data of mixed magnitudes, of each library. */
 #define MIXED_ALLOWANCE 0.5

@@ -6,7 +6,7 @@ set -eu
 here=$(cd "$(dirname "$0")" && pwd)
 out=$1
 cc=${CC:-gcc}
-names=$(sed -n 's/^ *\(WORD\|WHOLE\)(\([a-z]*\),.*/\2/p' "$here/functions.h")
+names=$(sed -n 's/^    [A-Z]*(\([a-z]*\),.*/\1/p' "$here/functions.h")
 mkdir -p "$out"
 
 empty() { echo | "$cc" -x c -c - -o "$1"; }
@@ -24,7 +24,8 @@ else
     empty "$out/musl.o"
 fi
 
-# newlib comes as source. Its generic C files are one a function and width; nearbyint calls rint.
+# newlib comes as source. Its generic C files are one a function and width (s_ for double, sf_ for float; fmod has a wrapper w_ around
+# e_); beside the timed ones those that they call.
 newlib="not installed: make bench-deps"
 source=$(ls /usr/src/newlib/newlib-*.tar.* 2>/dev/null | head -n 1)
 if [ -n "$source" ]; then
@@ -32,14 +33,19 @@ if [ -n "$source" ]; then
     tar -xf "$source" -C "$out/newlib" --strip-components=2 --wildcards \
         '*/newlib/libm/common' '*/newlib/libm/math' '*/newlib/libc/include'
     objects=
-    for name in $names rint; do
-        for file in "s_$name" "sf_$name"; do
-            "$cc" -O2 -falign-functions=64 -w -fno-builtin -nostdinc -isystem "$("$cc" -print-file-name=include)" \
+    for name in $names rint scalbn copysign finite fpclassify; do
+        case $name in
+        fmod) files="w_fmod wf_fmod e_fmod ef_fmod" ;;
+        *) files="s_$name sf_$name" ;;
+        esac
+        for file in $files; do
+            "$cc" -O2 -D_IEEE_LIBM -falign-functions=64 -w -fno-builtin -nostdinc -isystem "$("$cc" -print-file-name=include)" \
                 -I "$out/newlib/libc/include" -I "$out/newlib/libm/common" -c "$(ls "$out/newlib/libm"/*/"$file.c")" -o "$out/newlib/$file.o"
             objects="$objects $out/newlib/$file.o"
         done
     done
-    ld -r $objects -o "$out/newlib-plain.o"
+    echo 'int *__errno(void) { static int number; return &number; }' | "$cc" -O2 -x c -c - -o "$out/newlib/errno.o"
+    ld -r $objects "$out/newlib/errno.o" -o "$out/newlib-plain.o"
     objcopy --prefix-symbols=newlib_ "$out/newlib-plain.o" "$out/newlib.o"
     newlib=$(version newlib-source)
 else

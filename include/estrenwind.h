@@ -1,5 +1,5 @@
 /*
- * Estrenwind: rounding of IEEE 754 numbers, exact to the last bit.
+ * Estrenwind: rounding, splitting, scaling and remainders of IEEE 754 numbers, exact to the last bit.
  *
  * A function whose name ends in _f64 or _f32 takes and returns bit patterns: the 64 bits of a double as a uint64_t, the 32
  * bits of a float as a uint32_t. A NaN's sign and payload pass through a pattern untouched. Under each pair stand two forms
@@ -36,9 +36,18 @@ static inline float ew_value_f32(uint32_t bits) { float x; memcpy(&x, &bits, siz
 /* The number in the field `refusal` of an answer. What the other fields hold when it is not EW_ACCEPTED, each function says. */
 enum {
     EW_ACCEPTED = 0,
-    EW_REFUSED_NAN = 1,  /* a NaN has no whole number */
-    EW_REFUSED_RANGE = 3 /* the result is infinite or does not fit */
+    EW_REFUSED_NAN = 1,     /* a NaN has no whole number */
+    EW_REFUSED_OPERAND = 2, /* an infinite number has no remainder, and none is left by zero */
+    EW_REFUSED_RANGE = 3    /* the result is infinite or does not fit */
 };
+
+/* A pattern, and the refusal's number; what the pattern is where one is refused, each function says. Then the same of values. */
+typedef struct { uint64_t word; uint64_t refusal; } ew_word64;
+typedef struct { uint32_t word; uint64_t refusal; } ew_word32;
+typedef struct { double value; uint64_t refusal; } ew_double;
+typedef struct { float value; uint64_t refusal; } ew_float;
+static inline ew_double ew_value_word64(ew_word64 answer) { ew_double r; r.value = ew_value_f64(answer.word); r.refusal = answer.refusal; return r; }
+static inline ew_float ew_value_word32(ew_word32 answer) { ew_float r; r.value = ew_value_f32(answer.word); r.refusal = answer.refusal; return r; }
 
 /* ---- Kinds of numbers ---- */
 
@@ -174,6 +183,140 @@ ew_whole ew_lround_f64(uint64_t x);
 ew_whole ew_lround_f32(uint32_t x);
 static inline ew_whole ew_lround(double x) { return ew_lround_f64(ew_bits_f64(x)); }
 static inline ew_whole ew_lroundf(float x) { return ew_lround_f32(ew_bits_f32(x)); }
+
+/* ---- Splitting and scaling ---- */
+
+/* The two parts of a number, as patterns and as values. */
+typedef struct { uint64_t whole, fraction; } ew_parts64;
+typedef struct { uint32_t whole, fraction; } ew_parts32;
+typedef struct { double whole, fraction; } ew_double_parts;
+typedef struct { float whole, fraction; } ew_float_parts;
+
+/*
+ * ew_modf returns trunc(x) and what x has past it, each with x's sign. Added together they are x again, to the bit.
+ *
+ * Special cases are:
+ *     modf(±0) = ±0, ±0
+ *     modf(±Inf) = ±Inf, ±0
+ *     modf(NaN) = that NaN, quieted, twice
+ */
+ew_parts64 ew_modf_f64(uint64_t x);
+ew_parts32 ew_modf_f32(uint32_t x);
+static inline ew_double_parts ew_modf(double x)
+{
+    const ew_parts64 parts = ew_modf_f64(ew_bits_f64(x));
+    ew_double_parts r;
+    r.whole = ew_value_f64(parts.whole);
+    r.fraction = ew_value_f64(parts.fraction);
+    return r;
+}
+static inline ew_float_parts ew_modff(float x)
+{
+    const ew_parts32 parts = ew_modf_f32(ew_bits_f32(x));
+    ew_float_parts r;
+    r.whole = ew_value_f32(parts.whole);
+    r.fraction = ew_value_f32(parts.fraction);
+    return r;
+}
+
+/* A fraction and an exponent, as a pattern and as a value. */
+typedef struct { uint64_t fraction; int64_t exponent; } ew_frexp64;
+typedef struct { uint32_t fraction; int64_t exponent; } ew_frexp32;
+typedef struct { double fraction; int64_t exponent; } ew_double_frexp;
+typedef struct { float fraction; int64_t exponent; } ew_float_frexp;
+
+/*
+ * ew_frexp returns a fraction of magnitude at least 0.5 and below 1, with x's sign, and an exponent: x is fraction * 2^exponent.
+ *
+ * Special cases are:
+ *     frexp(±0) = ±0, 0
+ *     frexp(±Inf) = ±Inf, 0
+ *     frexp(NaN) = that NaN, quieted, 0
+ */
+ew_frexp64 ew_frexp_f64(uint64_t x);
+ew_frexp32 ew_frexp_f32(uint32_t x);
+static inline ew_double_frexp ew_frexp(double x)
+{
+    const ew_frexp64 parts = ew_frexp_f64(ew_bits_f64(x));
+    ew_double_frexp r;
+    r.fraction = ew_value_f64(parts.fraction);
+    r.exponent = parts.exponent;
+    return r;
+}
+static inline ew_float_frexp ew_frexpf(float x)
+{
+    const ew_frexp32 parts = ew_frexp_f32(ew_bits_f32(x));
+    ew_float_frexp r;
+    r.fraction = ew_value_f32(parts.fraction);
+    r.exponent = parts.exponent;
+    return r;
+}
+
+/*
+ * ew_ldexp returns x * 2^n, rounded once, and of two equally near numbers the even one. Too small a result is a zero with x's
+ * sign, and is not refused.
+ *
+ * Special cases are:
+ *     ldexp(±0, n) = ±0
+ *     ldexp(±Inf, n) = ±Inf
+ *     ldexp(NaN, n) = that NaN, quieted
+ *
+ * Refuses 3 (EW_REFUSED_RANGE) where x is finite and the result infinite: that infinity.
+ */
+ew_word64 ew_ldexp_f64(uint64_t x, int64_t n);
+ew_word32 ew_ldexp_f32(uint32_t x, int64_t n);
+static inline ew_double ew_ldexp(double x, int64_t n) { return ew_value_word64(ew_ldexp_f64(ew_bits_f64(x), n)); }
+static inline ew_float ew_ldexpf(float x, int64_t n) { return ew_value_word32(ew_ldexp_f32(ew_bits_f32(x), n)); }
+
+/* ---- Remainder ---- */
+
+/*
+ * ew_fmod returns x - n * y exactly, n being x / y cut to a whole number: of smaller magnitude than y, with x's sign.
+ *
+ * Special cases are:
+ *     fmod(±0, y) = ±0 for y not zero
+ *     fmod(x, ±Inf) = x for a finite x
+ *     fmod(x, y) = the first NaN, quieted, where there is one
+ *
+ * Refuses 2 (EW_REFUSED_OPERAND) where x is infinite or y is zero, and neither is a NaN: the default NaN.
+ */
+ew_word64 ew_fmod_f64(uint64_t x, uint64_t y);
+ew_word32 ew_fmod_f32(uint32_t x, uint32_t y);
+static inline ew_double ew_fmod(double x, double y) { return ew_value_word64(ew_fmod_f64(ew_bits_f64(x), ew_bits_f64(y))); }
+static inline ew_float ew_fmodf(float x, float y) { return ew_value_word32(ew_fmod_f32(ew_bits_f32(x), ew_bits_f32(y))); }
+
+/* ---- Order ---- */
+
+/*
+ * ew_nextafter returns the neighbour of x towards y. A zero that is reached keeps x's sign.
+ *
+ * Special cases are:
+ *     nextafter(x, y) = y where x equals y
+ *     nextafter(±0, y) = the smallest subnormal number, with y's sign
+ *     nextafter(x, y) = the first NaN, quieted, where there is one
+ *
+ * Refuses 3 (EW_REFUSED_RANGE) where x is finite and the result infinite: that infinity.
+ */
+ew_word64 ew_nextafter_f64(uint64_t x, uint64_t y);
+ew_word32 ew_nextafter_f32(uint32_t x, uint32_t y);
+static inline ew_double ew_nextafter(double x, double y) { return ew_value_word64(ew_nextafter_f64(ew_bits_f64(x), ew_bits_f64(y))); }
+static inline ew_float ew_nextafterf(float x, float y) { return ew_value_word32(ew_nextafter_f32(ew_bits_f32(x), ew_bits_f32(y))); }
+
+/*
+ * ew_fmin returns the lesser of two numbers, ew_fmax the greater, and the first where they are equal, as the two zeros are.
+ *
+ * Special cases are:
+ *     fmin(NaN, y) = y, fmin(x, NaN) = x, where the other is not a NaN
+ *     fmin(NaN, NaN) = the first, quieted
+ */
+uint64_t ew_fmin_f64(uint64_t x, uint64_t y);
+uint32_t ew_fmin_f32(uint32_t x, uint32_t y);
+uint64_t ew_fmax_f64(uint64_t x, uint64_t y);
+uint32_t ew_fmax_f32(uint32_t x, uint32_t y);
+static inline double ew_fmin(double x, double y) { return ew_value_f64(ew_fmin_f64(ew_bits_f64(x), ew_bits_f64(y))); }
+static inline float ew_fminf(float x, float y) { return ew_value_f32(ew_fmin_f32(ew_bits_f32(x), ew_bits_f32(y))); }
+static inline double ew_fmax(double x, double y) { return ew_value_f64(ew_fmax_f64(ew_bits_f64(x), ew_bits_f64(y))); }
+static inline float ew_fmaxf(float x, float y) { return ew_value_f32(ew_fmax_f32(ew_bits_f32(x), ew_bits_f32(y))); }
 
 #ifdef __cplusplus
 }

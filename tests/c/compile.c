@@ -133,6 +133,151 @@ static const struct {
     {0x8010000000000000, 0x80800000, EW_NORMAL},
 };
 
+/* Functions of two numbers that may refuse. */
+static const struct {
+    const char *name;
+    ew_word64 (*pattern)(uint64_t, uint64_t);
+    ew_double (*value)(double, double);
+    uint64_t x, y, expected, refusal;
+} pairs64[] = {
+    {F64(fmod), 0xc01e000000000000, 0x4000000000000000, 0xbff8000000000000, EW_ACCEPTED}, /* fmod(-7.5, 2) = -1.5 */
+    {F64(fmod), 0x4008000000000000, 0x3ff0000000000000, 0x0000000000000000, EW_ACCEPTED},
+    {F64(fmod), 0xc008000000000000, 0xbff0000000000000, 0x8000000000000000, EW_ACCEPTED}, /* a zero with x's sign */
+    {F64(fmod), 0x7fefffffffffffff, 0x0000000000000003, 0x0000000000000002, EW_ACCEPTED}, /* a subnormal divisor */
+    {F64(fmod), 0x8000000000000005, 0x0000000000000003, 0x8000000000000002, EW_ACCEPTED},
+    {F64(fmod), 0x4008000000000000, 0xfff0000000000000, 0x4008000000000000, EW_ACCEPTED},
+    {F64(fmod), 0x7ff0000000000000, 0x4000000000000000, 0x7ff8000000000000, EW_REFUSED_OPERAND},
+    {F64(fmod), 0x4008000000000000, 0x8000000000000000, 0x7ff8000000000000, EW_REFUSED_OPERAND},
+    {F64(fmod), 0x7ff0000000000000, 0xfff0000000000001, 0xfff8000000000001, EW_ACCEPTED}, /* the NaN comes first */
+    {F64(nextafter), 0x0000000000000000, 0xbff0000000000000, 0x8000000000000001, EW_ACCEPTED}, /* nextafter(+0, -1) */
+    {F64(nextafter), 0x8000000000000001, 0x3ff0000000000000, 0x8000000000000000, EW_ACCEPTED}, /* x's sign at zero */
+    {F64(nextafter), 0x0000000000000000, 0x8000000000000000, 0x8000000000000000, EW_ACCEPTED}, /* equal: the second */
+    {F64(nextafter), 0x000fffffffffffff, 0x7ff0000000000000, 0x0010000000000000, EW_ACCEPTED},
+    {F64(nextafter), 0x7fefffffffffffff, 0x7ff0000000000000, 0x7ff0000000000000, EW_REFUSED_RANGE},
+    {F64(nextafter), 0xfff0000000000000, 0x0000000000000000, 0xffefffffffffffff, EW_ACCEPTED},
+    {F64(nextafter), 0x3ff0000000000000, 0x7ff0000000000001, 0x7ff8000000000001, EW_ACCEPTED},
+};
+
+static const struct {
+    const char *name;
+    ew_word32 (*pattern)(uint32_t, uint32_t);
+    ew_float (*value)(float, float);
+    uint32_t x, y, expected;
+    uint64_t refusal;
+} pairs32[] = {
+    {F32(fmod), 0xc0f00000, 0x40000000, 0xbfc00000, EW_ACCEPTED},
+    {F32(fmod), 0x7f7ffffe, 0x00000003, 0x00000001, EW_ACCEPTED},
+    {F32(fmod), 0xff800000, 0x40000000, 0x7fc00000, EW_REFUSED_OPERAND},
+    {F32(fmod), 0x40400000, 0x00000000, 0x7fc00000, EW_REFUSED_OPERAND},
+    {F32(nextafter), 0x00000000, 0xbf800000, 0x80000001, EW_ACCEPTED},
+    {F32(nextafter), 0x80000001, 0x3f800000, 0x80000000, EW_ACCEPTED},
+    {F32(nextafter), 0xff7fffff, 0xff800000, 0xff800000, EW_REFUSED_RANGE},
+};
+
+static const struct {
+    const char *name;
+    uint64_t (*pattern)(uint64_t, uint64_t);
+    double (*value)(double, double);
+    uint64_t x, y, expected;
+} choices64[] = {
+    {F64(fmin), 0x8000000000000001, 0x0000000000000001, 0x8000000000000001},
+    {F64(fmin), 0x0000000000000000, 0x8000000000000000, 0x0000000000000000}, /* equal: the first */
+    {F64(fmin), 0x8000000000000000, 0x0000000000000000, 0x8000000000000000},
+    {F64(fmin), 0x7ff0000000000001, 0x3ff0000000000000, 0x3ff0000000000000},
+    {F64(fmin), 0x7ff0000000000001, 0xfff8000000000000, 0x7ff8000000000001},
+    {F64(fmax), 0xbff0000000000000, 0xc000000000000000, 0xbff0000000000000},
+    {F64(fmax), 0x8000000000000000, 0x0000000000000000, 0x8000000000000000},
+    {F64(fmax), 0x3ff0000000000000, 0x7ff8000000000000, 0x3ff0000000000000},
+    {F64(fmax), 0x0000000000000001, 0x0000000000000002, 0x0000000000000002}, /* equal where subnormals are zeros */
+};
+
+static const struct {
+    const char *name;
+    uint32_t (*pattern)(uint32_t, uint32_t);
+    float (*value)(float, float);
+    uint32_t x, y, expected;
+} choices32[] = {
+    {F32(fmin), 0x80000001, 0x00000001, 0x80000001},
+    {F32(fmin), 0xff800001, 0xffc00000, 0xffc00001},
+    {F32(fmax), 0x00000001, 0x00000002, 0x00000002},
+    {F32(fmax), 0x7fc00000, 0xff800000, 0xff800000},
+};
+
+static const struct {
+    uint64_t x;
+    int64_t n;
+    uint64_t expected, refusal;
+} scales64[] = {
+    {0x3ff0000000000000, -1075, 0x0000000000000000, EW_ACCEPTED}, /* ldexp(1, -1075) = +0 */
+    {0x3ff0000000000000, 1024, 0x7ff0000000000000, EW_REFUSED_RANGE},
+    {0xbff0000000000000, 1024, 0xfff0000000000000, EW_REFUSED_RANGE},
+    {0x3ff8000000000000, -1075, 0x0000000000000001, EW_ACCEPTED},
+    {0x3ff0000000000003, -1024, 0x0004000000000001, EW_ACCEPTED}, /* rounded once, up */
+    {0x3ff0000000000006, -1024, 0x0004000000000002, EW_ACCEPTED}, /* a tie, to even */
+    {0x3fffffffffffffff, -1023, 0x0010000000000000, EW_ACCEPTED}, /* carries into the normal numbers */
+    {0x8000000000000001, 2097, 0xffe0000000000000, EW_ACCEPTED},
+    {0x0000000000000001, 2098, 0x7ff0000000000000, EW_REFUSED_RANGE},
+    {0x8000000000000001, INT64_MIN, 0x8000000000000000, EW_ACCEPTED},
+    {0x0000000000000001, INT64_MAX, 0x7ff0000000000000, EW_REFUSED_RANGE},
+    {0x8000000000000000, INT64_MAX, 0x8000000000000000, EW_ACCEPTED},
+    {0xfff0000000000000, INT64_MIN, 0xfff0000000000000, EW_ACCEPTED},
+    {0x7ff0000000000001, 0, 0x7ff8000000000001, EW_ACCEPTED},
+};
+
+static const struct {
+    uint32_t x;
+    int64_t n;
+    uint32_t expected;
+    uint64_t refusal;
+} scales32[] = {
+    {0x3f800000, -150, 0x00000000, EW_ACCEPTED},
+    {0x3f800001, -150, 0x00000001, EW_ACCEPTED},
+    {0x3f800000, 128, 0x7f800000, EW_REFUSED_RANGE},
+    {0x80000001, 276, 0xff000000, EW_ACCEPTED},
+    {0x3fffffff, -127, 0x00800000, EW_ACCEPTED},
+};
+
+static const struct {
+    uint64_t x, whole, fraction;
+} parts64[] = {
+    {0xc00a000000000000, 0xc008000000000000, 0xbfd0000000000000}, /* modf(-3.25) = -3, -0.25 */
+    {0x8000000000000001, 0x8000000000000000, 0x8000000000000001},
+    {0xc008000000000000, 0xc008000000000000, 0x8000000000000000},
+    {0xfff0000000000000, 0xfff0000000000000, 0x8000000000000000},
+    {0x432fffffffffffff, 0x432ffffffffffffe, 0x3fe0000000000000},
+    {0xfff0000000000001, 0xfff8000000000001, 0xfff8000000000001},
+};
+
+static const struct {
+    uint32_t x, whole, fraction;
+} parts32[] = {
+    {0xc0500000, 0xc0400000, 0xbe800000},
+    {0x80000001, 0x80000000, 0x80000001},
+    {0x7f800000, 0x7f800000, 0x00000000},
+};
+
+static const struct {
+    uint64_t x, fraction;
+    int64_t exponent;
+} frexps64[] = {
+    {0x0000000000000001, 0x3fe0000000000000, -1073}, /* frexp(pattern 1) = 0.5, -1073 */
+    {0x800fffffffffffff, 0xbfeffffffffffffe, -1022},
+    {0x7fefffffffffffff, 0x3fefffffffffffff, 1024},
+    {0xc000000000000000, 0xbfe0000000000000, 2},
+    {0x8000000000000000, 0x8000000000000000, 0},
+    {0xfff0000000000000, 0xfff0000000000000, 0},
+    {0x7ff0000000000001, 0x7ff8000000000001, 0},
+};
+
+static const struct {
+    uint32_t x, fraction;
+    int64_t exponent;
+} frexps32[] = {
+    {0x00000001, 0x3f000000, -148},
+    {0xff7fffff, 0xbf7fffff, 128},
+    {0x7f800001, 0x7fc00001, 0},
+};
+
 #define LENGTH(table) (sizeof(table) / sizeof(table)[0])
 
 static void check_all(void)
@@ -163,6 +308,88 @@ static void check_all(void)
         check("lround_f32", x, pattern.refusal, wholes32[i].refusal);
         check("lroundf", x, (uint64_t)value.value, (uint64_t)wholes32[i].value);
         check("lroundf", x, value.refusal, wholes32[i].refusal);
+    }
+    for (i = 0; i < LENGTH(pairs64); i++) {
+        const uint64_t x = pairs64[i].x, y = pairs64[i].y;
+        const ew_word64 pattern = pairs64[i].pattern(x, y);
+        const ew_double value = pairs64[i].value(ew_value_f64(x), ew_value_f64(y));
+        check(pairs64[i].name, x, pattern.word, pairs64[i].expected);
+        check(pairs64[i].name, x, pattern.refusal, pairs64[i].refusal);
+        check(pairs64[i].name, x, ew_bits_f64(value.value), pairs64[i].expected);
+        check(pairs64[i].name, x, value.refusal, pairs64[i].refusal);
+    }
+    for (i = 0; i < LENGTH(pairs32); i++) {
+        const uint32_t x = pairs32[i].x, y = pairs32[i].y;
+        const ew_word32 pattern = pairs32[i].pattern(x, y);
+        const ew_float value = pairs32[i].value(ew_value_f32(x), ew_value_f32(y));
+        check(pairs32[i].name, x, pattern.word, pairs32[i].expected);
+        check(pairs32[i].name, x, pattern.refusal, pairs32[i].refusal);
+        check(pairs32[i].name, x, ew_bits_f32(value.value), pairs32[i].expected);
+        check(pairs32[i].name, x, value.refusal, pairs32[i].refusal);
+    }
+    for (i = 0; i < LENGTH(choices64); i++) {
+        const uint64_t x = choices64[i].x, y = choices64[i].y;
+        check(choices64[i].name, x, choices64[i].pattern(x, y), choices64[i].expected);
+        check(choices64[i].name, x, ew_bits_f64(choices64[i].value(ew_value_f64(x), ew_value_f64(y))), choices64[i].expected);
+    }
+    for (i = 0; i < LENGTH(choices32); i++) {
+        const uint32_t x = choices32[i].x, y = choices32[i].y;
+        check(choices32[i].name, x, choices32[i].pattern(x, y), choices32[i].expected);
+        check(choices32[i].name, x, ew_bits_f32(choices32[i].value(ew_value_f32(x), ew_value_f32(y))), choices32[i].expected);
+    }
+    for (i = 0; i < LENGTH(scales64); i++) {
+        const uint64_t x = scales64[i].x;
+        const ew_word64 pattern = ew_ldexp_f64(x, scales64[i].n);
+        const ew_double value = ew_ldexp(ew_value_f64(x), scales64[i].n);
+        check("ldexp_f64", x, pattern.word, scales64[i].expected);
+        check("ldexp_f64", x, pattern.refusal, scales64[i].refusal);
+        check("ldexp", x, ew_bits_f64(value.value), scales64[i].expected);
+        check("ldexp", x, value.refusal, scales64[i].refusal);
+    }
+    for (i = 0; i < LENGTH(scales32); i++) {
+        const uint32_t x = scales32[i].x;
+        const ew_word32 pattern = ew_ldexp_f32(x, scales32[i].n);
+        const ew_float value = ew_ldexpf(ew_value_f32(x), scales32[i].n);
+        check("ldexp_f32", x, pattern.word, scales32[i].expected);
+        check("ldexp_f32", x, pattern.refusal, scales32[i].refusal);
+        check("ldexpf", x, ew_bits_f32(value.value), scales32[i].expected);
+        check("ldexpf", x, value.refusal, scales32[i].refusal);
+    }
+    for (i = 0; i < LENGTH(parts64); i++) {
+        const uint64_t x = parts64[i].x;
+        const ew_parts64 pattern = ew_modf_f64(x);
+        const ew_double_parts value = ew_modf(ew_value_f64(x));
+        check("modf_f64", x, pattern.whole, parts64[i].whole);
+        check("modf_f64", x, pattern.fraction, parts64[i].fraction);
+        check("modf", x, ew_bits_f64(value.whole), parts64[i].whole);
+        check("modf", x, ew_bits_f64(value.fraction), parts64[i].fraction);
+    }
+    for (i = 0; i < LENGTH(parts32); i++) {
+        const uint32_t x = parts32[i].x;
+        const ew_parts32 pattern = ew_modf_f32(x);
+        const ew_float_parts value = ew_modff(ew_value_f32(x));
+        check("modf_f32", x, pattern.whole, parts32[i].whole);
+        check("modf_f32", x, pattern.fraction, parts32[i].fraction);
+        check("modff", x, ew_bits_f32(value.whole), parts32[i].whole);
+        check("modff", x, ew_bits_f32(value.fraction), parts32[i].fraction);
+    }
+    for (i = 0; i < LENGTH(frexps64); i++) {
+        const uint64_t x = frexps64[i].x;
+        const ew_frexp64 pattern = ew_frexp_f64(x);
+        const ew_double_frexp value = ew_frexp(ew_value_f64(x));
+        check("frexp_f64", x, pattern.fraction, frexps64[i].fraction);
+        check("frexp_f64", x, (uint64_t)pattern.exponent, (uint64_t)frexps64[i].exponent);
+        check("frexp", x, ew_bits_f64(value.fraction), frexps64[i].fraction);
+        check("frexp", x, (uint64_t)value.exponent, (uint64_t)frexps64[i].exponent);
+    }
+    for (i = 0; i < LENGTH(frexps32); i++) {
+        const uint32_t x = frexps32[i].x;
+        const ew_frexp32 pattern = ew_frexp_f32(x);
+        const ew_float_frexp value = ew_frexpf(ew_value_f32(x));
+        check("frexp_f32", x, pattern.fraction, frexps32[i].fraction);
+        check("frexp_f32", x, (uint64_t)pattern.exponent, (uint64_t)frexps32[i].exponent);
+        check("frexpf", x, ew_bits_f32(value.fraction), frexps32[i].fraction);
+        check("frexpf", x, (uint64_t)value.exponent, (uint64_t)frexps32[i].exponent);
     }
     for (i = 0; i < LENGTH(kinds); i++) {
         check("classify_f64", kinds[i].x64, ew_classify_f64(kinds[i].x64), kinds[i].kind);

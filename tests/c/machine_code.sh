@@ -1,23 +1,32 @@
 #!/bin/sh
-# Reads the machine code of the library's functions of one number: none may call or jump to another, divide, or touch a
-# floating-point register, whatever the compiler made of the source. machine_code.sh LIBRARY
+# Reads the machine code of the library's functions, whatever the compiler made of the source: none may touch a floating-point
+# register, none but fmod may divide, and none but ldexp, whose rare cases are a function of their own, may call or jump to
+# another. machine_code.sh LIBRARY
 set -eu
 library=$1
-functions="floor ceil trunc round nearbyint lround fabs negate classify"
+functions="floor ceil trunc round nearbyint lround fabs negate classify modf frexp ldexp fmod nextafter fmin fmax"
+floating='%[xyz]mm|[[:space:]]f[a-z]+[[:space:]]+%?st'
+divides='[[:space:]]i?div[a-z]*[[:space:]]'
+# A call, or a jump out of the function, has a relocation of the kind PLT32.
+calls='[[:space:]]call[a-z]*[[:space:]]|R_X86_64_PLT32'
 checked=0
 for name in $functions; do
+    case $name in
+    fmod) wrong="$floating|$calls" ;;
+    ldexp) wrong="$floating|$divides" ;;
+    *) wrong="$floating|$divides|$calls" ;;
+    esac
     for symbol in "ew_${name}_f64" "ew_${name}_f32"; do
         code=$(objdump -dr --no-show-raw-insn --disassemble="$symbol" "$library" | sed -n "/<$symbol>:/,\$p")
         if [ -z "$code" ]; then
             echo "$symbol is not in $library" >&2
             exit 1
         fi
-        # A call, or a jump out of the function, has a relocation of the kind PLT32.
-        if echo "$code" | grep -E '[[:space:]](call|i?div)[a-z]*[[:space:]]|R_X86_64_PLT32|%[xyz]mm|[[:space:]]f[a-z]+[[:space:]]+%?st'; then
+        if echo "$code" | grep -E "$wrong"; then
             echo "$symbol: the lines above should not be there" >&2
             exit 1
         fi
         checked=$((checked + 1))
     done
 done
-echo "$checked functions call nothing, divide nothing and touch no floating-point register"
+echo "$checked functions touch no floating-point register; but for fmod none divides, but for ldexp none calls another"

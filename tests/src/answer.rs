@@ -21,6 +21,14 @@ impl Answer {
         Answer::word(value as u64)
     }
 
+    /// Two words, nothing refused.
+    pub const fn pair(first: u64, second: u64) -> Answer {
+        Answer {
+            refusal: 0,
+            words: [first, second],
+        }
+    }
+
     /// A refusal, and the word that document 01 returns with it.
     pub const fn refused(refusal: u64, word: u64) -> Answer {
         Answer {

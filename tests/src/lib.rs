@@ -11,6 +11,8 @@ pub mod environment;
 pub mod functions;
 pub mod library;
 pub mod operands;
+pub mod pairs;
 pub mod patterns;
 pub mod reference;
+pub mod scalings;
 pub mod vectors;

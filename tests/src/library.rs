@@ -15,6 +15,84 @@ impl From<Whole> for Answer {
     }
 }
 
+/// A pattern and the refusal number, `ew_word64` of the header.
+#[repr(C)]
+pub struct Word64 {
+    word: u64,
+    refusal: u64,
+}
+
+impl From<Word64> for Answer {
+    fn from(word: Word64) -> Answer {
+        Answer::refused(word.refusal, word.word)
+    }
+}
+
+/// A pattern and the refusal number, `ew_word32` of the header.
+#[repr(C)]
+pub struct Word32 {
+    word: u32,
+    refusal: u64,
+}
+
+impl From<Word32> for Answer {
+    fn from(word: Word32) -> Answer {
+        Answer::refused(word.refusal, word.word.into())
+    }
+}
+
+/// Both parts of a number, `ew_parts64` of the header.
+#[repr(C)]
+pub struct Parts64 {
+    whole: u64,
+    fraction: u64,
+}
+
+impl From<Parts64> for Answer {
+    fn from(parts: Parts64) -> Answer {
+        Answer::pair(parts.whole, parts.fraction)
+    }
+}
+
+/// Both parts of a number, `ew_parts32` of the header.
+#[repr(C)]
+pub struct Parts32 {
+    whole: u32,
+    fraction: u32,
+}
+
+impl From<Parts32> for Answer {
+    fn from(parts: Parts32) -> Answer {
+        Answer::pair(parts.whole.into(), parts.fraction.into())
+    }
+}
+
+/// A fraction and its power of two, `ew_frexp64` of the header.
+#[repr(C)]
+pub struct Frexp64 {
+    fraction: u64,
+    exponent: i64,
+}
+
+impl From<Frexp64> for Answer {
+    fn from(parts: Frexp64) -> Answer {
+        Answer::pair(parts.fraction, parts.exponent as u64)
+    }
+}
+
+/// A fraction and its power of two, `ew_frexp32` of the header.
+#[repr(C)]
+pub struct Frexp32 {
+    fraction: u32,
+    exponent: i64,
+}
+
+impl From<Frexp32> for Answer {
+    fn from(parts: Frexp32) -> Answer {
+        Answer::pair(parts.fraction.into(), parts.exponent as u64)
+    }
+}
+
 unsafe extern "C" {
     pub safe fn ew_floor_f64(x: u64) -> u64;
     pub safe fn ew_floor_f32(x: u32) -> u32;
@@ -34,4 +112,18 @@ unsafe extern "C" {
     pub safe fn ew_lround_f32(x: u32) -> Whole;
     pub safe fn ew_classify_f64(x: u64) -> u8;
     pub safe fn ew_classify_f32(x: u32) -> u8;
+    pub safe fn ew_modf_f64(x: u64) -> Parts64;
+    pub safe fn ew_modf_f32(x: u32) -> Parts32;
+    pub safe fn ew_frexp_f64(x: u64) -> Frexp64;
+    pub safe fn ew_frexp_f32(x: u32) -> Frexp32;
+    pub safe fn ew_ldexp_f64(x: u64, n: i64) -> Word64;
+    pub safe fn ew_ldexp_f32(x: u32, n: i64) -> Word32;
+    pub safe fn ew_fmod_f64(x: u64, y: u64) -> Word64;
+    pub safe fn ew_fmod_f32(x: u32, y: u32) -> Word32;
+    pub safe fn ew_nextafter_f64(x: u64, y: u64) -> Word64;
+    pub safe fn ew_nextafter_f32(x: u32, y: u32) -> Word32;
+    pub safe fn ew_fmin_f64(x: u64, y: u64) -> u64;
+    pub safe fn ew_fmin_f32(x: u32, y: u32) -> u32;
+    pub safe fn ew_fmax_f64(x: u64, y: u64) -> u64;
+    pub safe fn ew_fmax_f32(x: u32, y: u32) -> u32;
 }

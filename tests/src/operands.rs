@@ -1,20 +1,36 @@
 //! What a function takes, and what it is tried on.
 
-use crate::patterns::{edges, Random};
+use crate::patterns::Random;
 use crate::reference::Format;
+use crate::{pairs, patterns, scalings};
 
 /// The operands of a function. A case always has two words; one that isn't used is 0.
 #[derive(Clone, Copy, Debug, PartialEq, Eq)]
 pub enum Operands {
     /// One pattern.
     Pattern,
+    /// Two patterns.
+    Patterns,
+    /// A pattern and a whole number of 64 bits, as its two's complement.
+    PatternAndWhole,
 }
 
 impl Operands {
     /// The cases where a mistake would sit.
     pub fn edges(&self, format: &Format) -> Vec<[u64; 2]> {
         match self {
-            Operands::Pattern => edges(format).into_iter().map(|x| [x, 0]).collect(),
+            Operands::Pattern => patterns::edges(format)
+                .into_iter()
+                .map(|x| [x, 0])
+                .collect(),
+            Operands::Patterns => {
+                let edges = pairs::edges(format);
+                every_pair(&edges, &edges)
+            }
+            Operands::PatternAndWhole => {
+                let powers: Vec<u64> = scalings::powers().iter().map(|&n| n as u64).collect();
+                every_pair(&scalings::edges(format), &powers)
+            }
         }
     }
 
@@ -22,13 +38,24 @@ impl Operands {
     pub fn random(&self, format: &Format, random: &mut Random) -> [u64; 2] {
         match self {
             Operands::Pattern => [random.pattern(format), 0],
+            Operands::Patterns => random.pair(format),
+            Operands::PatternAndWhole => random.scaling(format),
         }
     }
 
     /// How many hexadecimal digits each operand is written with.
     pub fn digits(&self, format: &Format) -> Vec<usize> {
+        let digits = format.width() as usize / 4;
         match self {
-            Operands::Pattern => vec![format.width() as usize / 4],
+            Operands::Pattern => vec![digits],
+            Operands::Patterns => vec![digits, digits],
+            Operands::PatternAndWhole => vec![digits, 16],
         }
     }
+}
+
+fn every_pair(xs: &[u64], ys: &[u64]) -> Vec<[u64; 2]> {
+    xs.iter()
+        .flat_map(|&x| ys.iter().map(move |&y| [x, y]))
+        .collect()
 }

@@ -18,8 +18,8 @@ fn bits_below_half(format: &Format, exponent_field: u64) -> u32 {
 }
 
 /// Patterns where a mistake would sit, of both signs. Every exponent field with the fractions at
-/// its ends and its middle; where rounding happens, also the first and last multiples of 1/2 in the
-/// field, with their neighbours.
+/// its ends and its middle; the first and last subnormal number of every size; where rounding
+/// happens, also the first and last multiples of 1/2 in the field, with their neighbours.
 pub fn edges(format: &Format) -> Vec<u64> {
     let field_size = 1 << format.fraction_bits;
     let half = field_size / 2;
@@ -29,6 +29,9 @@ pub fn edges(format: &Format) -> Vec<u64> {
         for fraction in [0, 1, half - 1, half, half + 1, ones - 1, ones] {
             edges.push(field * field_size + fraction);
         }
+    }
+    for digits in 1..=format.fraction_bits {
+        edges.extend([1 << (digits - 1), (1 << digits) - 1]);
     }
     for field in rounding_fields(format) {
         let step = 1 << bits_below_half(format, field);
@@ -65,8 +68,14 @@ impl Random {
     }
 
     /// A number below the bound.
-    fn below(&mut self, bound: u64) -> u64 {
+    pub fn below(&mut self, bound: u64) -> u64 {
         ((self.word() as u128 * bound as u128) >> 64) as u64
+    }
+
+    /// A number of a range, each equally likely.
+    pub fn within(&mut self, range: Range<i64>) -> i64 {
+        let count = range.end.abs_diff(range.start);
+        range.start.wrapping_add_unsigned(self.below(count))
     }
 
     /// A pattern, each equally likely.
@@ -92,12 +101,30 @@ impl Random {
         }
     }
 
-    /// Uniform and near rounding by turns.
+    /// A number of so many binary digits, at least 1.
+    pub fn of_digits(&mut self, digits: u32) -> u64 {
+        let leading = 1 << (digits - 1);
+        leading | (self.word() % leading)
+    }
+
+    /// A subnormal number, one of few digits as likely as one of many.
+    pub fn subnormal(&mut self, format: &Format) -> u64 {
+        let digits = 1 + self.below(format.fraction_bits as u64) as u32;
+        (self.uniform(format) & format.sign_bit()) | self.of_digits(digits)
+    }
+
+    /// A pattern with this exponent field.
+    pub fn in_field(&mut self, format: &Format, field: u64) -> u64 {
+        let uniform = self.uniform(format);
+        (uniform & format.sign_bit()) | field << format.fraction_bits | format.fraction(uniform)
+    }
+
+    /// Uniform, near rounding and subnormal by turns.
     pub fn pattern(&mut self, format: &Format) -> u64 {
-        if self.below(2) == 0 {
-            self.uniform(format)
-        } else {
-            self.near_rounding(format)
+        match self.below(8) {
+            0..=2 => self.uniform(format),
+            3..=6 => self.near_rounding(format),
+            _ => self.subnormal(format),
         }
     }
 }
@@ -132,6 +159,8 @@ mod tests {
             (0x4330000000000001, 0x4b000001), // 2^F + 1
             (0x43dfffffffffffff, 0x5effffff), // just below 2^63
             (0xc3e0000000000001, 0xdf000001), // just below -2^63
+            (0x0000000000000040, 0x00000040), // the first subnormal number of 7 digits
+            (0x800000000000007f, 0x8000007f), // the last, negated
             (0x7ff0000000000001, 0x7f800001), // a signalling NaN
             (0xfff8000000000000, 0xffc00000), // a quiet NaN
         ] {

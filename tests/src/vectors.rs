@@ -1,14 +1,21 @@
 //! The cases of `vectors/`, and the lines in which programs read and answer them.
 //!
-//! A case is a line `function width operand ..`, operands in hexadecimal with all their digits.
-//! From a `#` on, a line is for its reader. The files hold no answers: the reference gives them.
+//! A case is a line `function width operand ..`, operands in hexadecimal with all their digits; a
+//! power of two has 16, as its two's complement. From a `#` on, a line is for its reader. The files hold no answers: the reference gives them.
 
 use crate::answer::Answer;
 use crate::functions::{format_of_width, Function};
 use crate::reference::Format;
 
 /// Names and texts, in the order in which programs get their cases.
-const FILES: [(&str, &str); 1] = [("roundings.txt", include_str!("../vectors/roundings.txt"))];
+const FILES: [(&str, &str); 6] = [
+    ("roundings.txt", include_str!("../vectors/roundings.txt")),
+    ("parts.txt", include_str!("../vectors/parts.txt")),
+    ("scalings.txt", include_str!("../vectors/scalings.txt")),
+    ("remainders.txt", include_str!("../vectors/remainders.txt")),
+    ("neighbours.txt", include_str!("../vectors/neighbours.txt")),
+    ("extremes.txt", include_str!("../vectors/extremes.txt")),
+];
 
 pub struct Case {
     pub function: &'static Function,
@@ -75,6 +82,12 @@ mod tests {
         let case = parse("lround 32 c0200000").unwrap();
         assert_eq!((case.function.name, case.format.width()), ("lround", 32));
         assert_eq!(case.operands, [0xc020_0000, 0]);
+
+        let case = parse("fmod 32 c0f00000 40000000").unwrap();
+        assert_eq!(case.operands, [0xc0f0_0000, 0x4000_0000]);
+
+        let case = parse("ldexp 32 3f800000 ffffffffffffff6a").unwrap();
+        assert_eq!(case.operands, [0x3f80_0000, -150i64 as u64]);
     }
 
     /// A line with a mistake must not pass as some other case.
@@ -89,6 +102,12 @@ mod tests {
             "floor 32 bfe0000000000000",
             "floor 64 bfe000000000000g",
             "floor 64 bfe0000000000000 0000000000000000",
+            "fmod 64 bfe0000000000000",
+            "fmod 32 bf000000 bfe0000000000000",
+            "fmod 32 bf000000 bf000000 bf000000",
+            "ldexp 32 bf000000",
+            "ldexp 32 bf000000 ffffff6a",
+            "ldexp 64 bfe0000000000000 -150",
         ] {
             assert!(parse(line).is_none(), "{line}");
         }

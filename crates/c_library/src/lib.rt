@@ -1,10 +1,20 @@
 // The C library: each exported function is one call of the layer that has it. include/estrenwind.h declares them.
 use float_format::Binary32;
 use float_format::Binary64;
+use float_format::Word32;
+use float_format::Word64;
+use scaling::Frexp32;
+use scaling::Frexp64;
+use splitting::Patterns32;
+use splitting::Patterns64;
 ghost use mathlib.Core.Path.{_≡_};
 ghost use Rattle.float_format.specs.Format.{binary32, binary64, classify, classNumber, absolute, negated};
 ghost use Rattle.float_format.specs.Rounding.{integral, lroundRefusal, lroundValue};
 ghost use Rattle.float_format.specs.declared.Direction.the-variants.{Down, Up, TowardZero, HalfAway, HalfEven};
+ghost use Rattle.splitting.specs.Splitting.{modfWhole, modfFraction};
+ghost use Rattle.scaling.specs.Scaling.{frexpFraction, frexpExponent, ldexp, ldexpRefusal};
+ghost use Rattle.remainder.specs.Remainder.{fmod, fmodRefusal};
+ghost use Rattle.ordering.specs.Ordering.{nextafter, nextafterRefusal, fmin, fmax};
 
 // A whole number, and the number of the refusal, 0 where there is none.
 #[repr(C)]
@@ -145,4 +155,102 @@ pub extern "C" fn ew_lround_f32(x: u32) -> Whole
         value: answer.value(),
         refusal: answer.refusal(),
     }
+}
+
+#[no_mangle]
+pub extern "C" fn ew_modf_f64(x: u64) -> Patterns64
+    ensures { λ r. ⌜ (r .whole ≡ modfWhole binary64 x) × (r .fraction ≡ modfFraction binary64 x) ⌝ }
+{
+    splitting::binary64::modf_patterns(x)
+}
+
+#[no_mangle]
+pub extern "C" fn ew_modf_f32(x: u32) -> Patterns32
+    ensures { λ r. ⌜ (r .whole ≡ modfWhole binary32 x) × (r .fraction ≡ modfFraction binary32 x) ⌝ }
+{
+    splitting::binary32::modf_patterns(x)
+}
+
+#[no_mangle]
+pub extern "C" fn ew_frexp_f64(x: u64) -> Frexp64
+    ensures { λ r. ⌜ (r .fraction ≡ frexpFraction binary64 x) × (r .exponent ≡ frexpExponent binary64 x) ⌝ }
+{
+    scaling::binary64::frexp(x)
+}
+
+#[no_mangle]
+pub extern "C" fn ew_frexp_f32(x: u32) -> Frexp32
+    ensures { λ r. ⌜ (r .fraction ≡ frexpFraction binary32 x) × (r .exponent ≡ frexpExponent binary32 x) ⌝ }
+{
+    scaling::binary32::frexp(x)
+}
+
+#[no_mangle]
+pub extern "C" fn ew_ldexp_f64(x: u64, n: i64) -> Word64
+    ensures { λ r. ⌜ (r .word ≡ ldexp binary64 x n) × (r .refusal ≡ ldexpRefusal binary64 x n) ⌝ }
+{
+    scaling::binary64::ldexp(x, n)
+}
+
+#[no_mangle]
+pub extern "C" fn ew_ldexp_f32(x: u32, n: i64) -> Word32
+    ensures { λ r. ⌜ (r .word ≡ ldexp binary32 x n) × (r .refusal ≡ ldexpRefusal binary32 x n) ⌝ }
+{
+    scaling::binary32::ldexp(x, n)
+}
+
+#[no_mangle]
+pub extern "C" fn ew_fmod_f64(x: u64, y: u64) -> Word64
+    ensures { λ r. ⌜ (r .word ≡ fmod binary64 x y) × (r .refusal ≡ fmodRefusal binary64 x y) ⌝ }
+{
+    remainder::binary64::fmod(x, y)
+}
+
+#[no_mangle]
+pub extern "C" fn ew_fmod_f32(x: u32, y: u32) -> Word32
+    ensures { λ r. ⌜ (r .word ≡ fmod binary32 x y) × (r .refusal ≡ fmodRefusal binary32 x y) ⌝ }
+{
+    remainder::binary32::fmod(x, y)
+}
+
+#[no_mangle]
+pub extern "C" fn ew_nextafter_f64(x: u64, y: u64) -> Word64
+    ensures { λ r. ⌜ (r .word ≡ nextafter binary64 x y) × (r .refusal ≡ nextafterRefusal binary64 x y) ⌝ }
+{
+    ordering::binary64::nextafter(x, y)
+}
+
+#[no_mangle]
+pub extern "C" fn ew_nextafter_f32(x: u32, y: u32) -> Word32
+    ensures { λ r. ⌜ (r .word ≡ nextafter binary32 x y) × (r .refusal ≡ nextafterRefusal binary32 x y) ⌝ }
+{
+    ordering::binary32::nextafter(x, y)
+}
+
+#[no_mangle]
+pub extern "C" fn ew_fmin_f64(x: u64, y: u64) -> u64
+    ensures { λ r. ⌜ r ≡ fmin binary64 x y ⌝ }
+{
+    ordering::binary64::fmin(x, y)
+}
+
+#[no_mangle]
+pub extern "C" fn ew_fmin_f32(x: u32, y: u32) -> u32
+    ensures { λ r. ⌜ r ≡ fmin binary32 x y ⌝ }
+{
+    ordering::binary32::fmin(x, y)
+}
+
+#[no_mangle]
+pub extern "C" fn ew_fmax_f64(x: u64, y: u64) -> u64
+    ensures { λ r. ⌜ r ≡ fmax binary64 x y ⌝ }
+{
+    ordering::binary64::fmax(x, y)
+}
+
+#[no_mangle]
+pub extern "C" fn ew_fmax_f32(x: u32, y: u32) -> u32
+    ensures { λ r. ⌜ r ≡ fmax binary32 x y ⌝ }
+{
+    ordering::binary32::fmax(x, y)
 }

@@ -10,5 +10,5 @@ pub mod Lead
 pub mod Order
 pub mod Bounds
 pub mod Laws
+pub mod Lround
 pub mod Nearest
-pub mod Marked

@@ -4,7 +4,7 @@ use mathlib.Core.Path.{_≡_, refl, sym, ap, _∙_}
 use mathlib.Core.Bool.{Bool, true, false}
 use mathlib.Core.Logic.{⊎-elim}
 use Prim.Native.Nat.{ℕ, suc, _+_, _-_, _*_, _/_, _%_, _^_, _≤_, _<_}
-use native.Mathlib.Nat.{div-lt-iff-lt-mul, le-div-iff-mul-le, lt-of-lt-of-le, le-of-eq, pow-suc, div-add-mod'}
+use native.Mathlib.Nat.{div-lt-iff-lt-mul, le-div-iff-mul-le, lt-of-lt-of-le, le-of-eq, pow-suc, div-add-mod', mod-le}
 use native.Mathlib.Omega.{arith}
 use lib.Pow.{pow-pos, pow-mono, pow-add, suc-ones, mod-mod-pow}
 use borrow.Author.Tests.{le-leb, lt-leb}
@@ -56,6 +56,12 @@ field-le f x =
     let fits : unsigned f x < 2 ^ f .exponent * 2 ^ f .fraction = lt-of-lt-of-le (below-sign f x) (le-of-eq (pow-add 2 (f .exponent) (f .fraction))) in
     let q : unsigned f x / 2 ^ f .fraction < 2 ^ f .exponent = div-lt-iff-lt-mul (pow-pos (f .fraction)) .1 fits in
     omega (arith, suc-ones (f .exponent))
+
+-- a pattern is the zero of its sign, its exponent field and its fraction
+pub fields-apart : (f : Format) (x : ℕ) → x ≡ x - x % signBit f + (exponentField f x * 2 ^ f .fraction + x % 2 ^ f .fraction)
+fields-apart f x =
+    let m : unsigned f x % 2 ^ f .fraction ≡ x % 2 ^ f .fraction = mod-mod-pow x (f .exponent) (f .fraction) in
+    omega (arith, div-add-mod' (unsigned f x) (2 ^ f .fraction), mod-le x (signBit f))
 
 -- it tells on which side of 2 ^ F times a number n the rest of the pattern lies
 module _ (f : Format) (x e n : ℕ) (ee : e ≡ exponentField f x) where

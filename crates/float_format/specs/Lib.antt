@@ -3,4 +3,3 @@ pub mod Format
 pub mod Number
 pub mod Width
 pub mod Rounding
-pub mod Marked

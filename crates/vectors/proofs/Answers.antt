@@ -1,57 +1,76 @@
 -- `answerAt` by a function's number, and `answerOf` by a width: at one that is listed, and at any other. Assumes nothing.
-use mathlib.Core.Path.{_≡_, ap, sym}
+use mathlib.Core.Path.{_≡_, refl, ap, sym}
 use Prim.Native.Nat.{ℕ, _%_, _^_}
 use lib.IntN.{ℤ}
 use mir.Syntax.{w64}
-use mir.Val.{ofZ}
+use mir.Val.{ofZ, toZ}
 use borrow.Author.Tests.{ne-eqb}
 use Rattle.float_format.specs.Format.{Format, binary32, binary64}
 use Rattle.vectors.specs.declared.case.Case.{Case}
-use Rattle.vectors.specs.declared.answer.Answer.{Answer}
-use Rattle.vectors.specs.Answer.{unknownAnswer, wholeAnswer, answerAt, answerOf}
+use Rattle.vectors.specs.Answer.{words, unknownAnswer, wholeAnswer, furtherAt, answerAt, answerOf}
 
 -- ---- by its parts
 
-pub words : {r r' w w' : ℕ} → r ≡ r' → w ≡ w' → _≡_ {A = Answer} (record { refusal = r; first = w; second = 0 }) (record { refusal = r'; first = w'; second = 0 })
-words p q = cc
+pub three : {r r' a a' b b' : ℕ} → r ≡ r' → a ≡ a' → b ≡ b' → words r a b ≡ words r' a' b'
+three p q t = cc
 
 pub whole : {r r' : ℕ} {z z' : ℤ} → r ≡ r' → z ≡ z' → wholeAnswer r z ≡ wholeAnswer r' z'
-whole p q = words p (ap (ofZ w64) q)
+whole p q = three p (ap (ofZ w64) q) refl
 
 -- ---- by a function's number
 
 -- in an arm, the function is the arm's number
-pub listed : (f : Format) (x y : ℕ) {function k : ℕ} → function ≡ k → answerAt f k x y ≡ answerAt f function x y
-listed f x y e = sym (ap (λ (n : ℕ). answerAt f n x y) e)
+pub listed : (f : Format) (x y : ℕ) (n : ℤ) {function k : ℕ} → function ≡ k → answerAt f k x y n ≡ answerAt f function x y n
+listed f x y n e = sym (ap (λ (k : ℕ). answerAt f k x y n) e)
+
+pub further : (f : Format) (x y : ℕ) (n : ℤ) {function k : ℕ} → function ≡ k → furtherAt f k x y n ≡ furtherAt f function x y n
+further f x y n e = sym (ap (λ (k : ℕ). furtherAt f k x y n) e)
 
 -- what the last arm of a match knows
 abbrev pub Unlisted : ℕ → Type 0
 Unlisted n =
     ((((((((Unit {0} × (n ≡ 16 → ⊥)) × (n ≡ 17 → ⊥)) × (n ≡ 18 → ⊥)) × (n ≡ 19 → ⊥)) × (n ≡ 20 → ⊥)) × (n ≡ 22 → ⊥)) × (n ≡ 23 → ⊥)) × (n ≡ 24 → ⊥)) × (n ≡ 25 → ⊥)
 
-pub unlisted : (f : Format) (function x y : ℕ) → Unlisted function → unknownAnswer ≡ answerAt f function x y
+pub unlisted : (f : Format) (function x y : ℕ) (n : ℤ) → Unlisted function → furtherAt f function x y n ≡ answerAt f function x y n
 unfolding answerAt
-unlisted f n x y h =
+unlisted f k x y n h =
     simp (
-      ne-eqb n 16 (h .0 .0 .0 .0 .0 .0 .0 .0 .1),
-      ne-eqb n 17 (h .0 .0 .0 .0 .0 .0 .0 .1),
-      ne-eqb n 18 (h .0 .0 .0 .0 .0 .0 .1),
-      ne-eqb n 19 (h .0 .0 .0 .0 .0 .1),
-      ne-eqb n 20 (h .0 .0 .0 .0 .1),
-      ne-eqb n 22 (h .0 .0 .0 .1),
-      ne-eqb n 23 (h .0 .0 .1),
-      ne-eqb n 24 (h .0 .1),
-      ne-eqb n 25 (h .1),
+      ne-eqb k 16 (h .0 .0 .0 .0 .0 .0 .0 .0 .1),
+      ne-eqb k 17 (h .0 .0 .0 .0 .0 .0 .0 .1),
+      ne-eqb k 18 (h .0 .0 .0 .0 .0 .0 .1),
+      ne-eqb k 19 (h .0 .0 .0 .0 .0 .1),
+      ne-eqb k 20 (h .0 .0 .0 .0 .1),
+      ne-eqb k 22 (h .0 .0 .0 .1),
+      ne-eqb k 23 (h .0 .0 .1),
+      ne-eqb k 24 (h .0 .1),
+      ne-eqb k 25 (h .1),
+    )
+
+abbrev pub Unknown : ℕ → Type 0
+Unknown n =
+    ((((((Unit {0} × (n ≡ 21 → ⊥)) × (n ≡ 32 → ⊥)) × (n ≡ 33 → ⊥)) × (n ≡ 34 → ⊥)) × (n ≡ 35 → ⊥)) × (n ≡ 36 → ⊥)) × (n ≡ 37 → ⊥)
+
+pub unknown : (f : Format) (function x y : ℕ) (n : ℤ) → Unknown function → unknownAnswer ≡ furtherAt f function x y n
+unfolding furtherAt
+unknown f k x y n h =
+    simp (
+      ne-eqb k 21 (h .0 .0 .0 .0 .0 .0 .1),
+      ne-eqb k 32 (h .0 .0 .0 .0 .0 .1),
+      ne-eqb k 33 (h .0 .0 .0 .0 .1),
+      ne-eqb k 34 (h .0 .0 .0 .1),
+      ne-eqb k 35 (h .0 .0 .1),
+      ne-eqb k 36 (h .0 .1),
+      ne-eqb k 37 (h .1),
     )
 
 -- ---- by a width
 
 module _ (c : Case) where
-  pub at-64 : c .width ≡ 64 → answerAt binary64 (c .function) (c .x) (c .y) ≡ answerOf c
+  pub at-64 : c .width ≡ 64 → answerAt binary64 (c .function) (c .x) (c .y) (toZ w64 (c .y)) ≡ answerOf c
   unfolding answerOf
   at-64 e = rw e
 
-  pub at-32 : c .width ≡ 32 → answerAt binary32 (c .function) (c .x % 2 ^ 32) (c .y) ≡ answerOf c
+  pub at-32 : c .width ≡ 32 → answerAt binary32 (c .function) (c .x % 2 ^ 32) (c .y % 2 ^ 32) (toZ w64 (c .y)) ≡ answerOf c
   unfolding answerOf
   at-32 e = rw e
 

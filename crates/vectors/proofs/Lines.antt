@@ -9,11 +9,12 @@ use lib.Dec.{eqb}
 use lib.ListN.{getD, length, length-set, length-append, length-drop, set, take, drop}
 use lib.Seq.{take-all, take-at, take-suc-set, length-take-le}
 use borrow.Author.Tests.{eq-eqb}
-use Rattle.io.specs.Digits.{digits}
-use Rattle.vectors.specs.declared.hex.Field.{Field}
+use Rattle.hex.specs.Hex.{digits}
+use Rattle.hex.proofs.Digits.{length-digits}
+use Rattle.hex.specs.declared.Field.{Field}
 use Rattle.vectors.specs.declared.case.Parsed.the-variants.{Malformed}
 use Rattle.vectors.specs.declared.answer.Answer.{Answer}
-use Rattle.vectors.specs.Hex.{fieldOf}
+use Rattle.hex.specs.Hex.{fieldOf}
 use Rattle.vectors.specs.Line.{separatedBy, fromFields, caseOf, lineOf, responseOf, responses}
 
 -- ---- read
@@ -32,10 +33,6 @@ unfolding caseOf
 fields s function width x y h f w p q = rw (h, f, w, p, q)
 
 -- ---- written
-
-length-digits : (k n : ℕ) → length (digits 16 k n) ≡ k
-length-digits zero n = refl
-length-digits (suc k) n = simp (length-append, length-digits k (n / 16)) (add-one k)
 
 -- the list with ys in the place of the k elements from a on
 abbrev put : ℕ → ℕ → List ℕ → List ℕ → List ℕ
@@ -78,7 +75,7 @@ module _ (xs a b d : List ℕ) (h : length xs ≡ 37) (p : length a ≡ 2) (q : 
       let t6 : take 37 l6 ≡ ((((a ++ (32 ∷ [])) ++ b) ++ (32 ∷ [])) ++ d) ++ (10 ∷ []) = set-next l5 _ 36 10 (omega arith) t5 in
       sym (take-all 37 l6 (omega arith)) ∙ t6 ∙ simp append-assoc
 
-pub formatted : (s : Answer) (xs a b d : List ℕ) → length xs ≡ 37 → a ≡ digits 16 2 (s .refusal) → b ≡ digits 16 16 (s .first) → d ≡ digits 16 16 (s .second)
+pub formatted : (s : Answer) (xs a b d : List ℕ) → length xs ≡ 37 → a ≡ digits 2 (s .refusal) → b ≡ digits 16 (s .first) → d ≡ digits 16 (s .second)
     → set (put 20 16 (set (put 3 16 (set (a ++ drop 2 xs) 2 32) b) 19 32) d) 36 10 ≡ lineOf s
 unfolding lineOf
 formatted s xs a b d h p q r =

@@ -4,28 +4,47 @@ use mathlib.Core.Bool.{cond}
 use lib.Dec.{eqb}
 use lib.IntN.{ℤ}
 use mir.Syntax.{w64}
-use mir.Val.{ofZ}
+use mir.Val.{ofZ, toZ}
 use Rattle.float_format.specs.Format.{Format, binary32, binary64, absolute, negated, classify, classNumber}
 use Rattle.float_format.specs.Rounding.{integral, lroundRefusal, lroundValue}
 use Rattle.float_format.specs.declared.Direction.the-variants.{Down, Up, TowardZero, HalfAway, HalfEven}
+use Rattle.splitting.specs.Splitting.{modfWhole, modfFraction}
+use Rattle.scaling.specs.Scaling.{frexpFraction, frexpExponent, ldexp, ldexpRefusal}
+use Rattle.remainder.specs.Remainder.{fmod, fmodRefusal}
+use Rattle.ordering.specs.Ordering.{nextafter, nextafterRefusal, fmin, fmax}
 use Rattle.vectors.specs.declared.case.Case.{Case}
 use Rattle.vectors.specs.declared.answer.Answer.{Answer}
 
+-- a refusal's number and two words
+abbrev pub words : ℕ → ℕ → ℕ → Answer
+words refusal first second = record { refusal = refusal; first = first; second = second }
+
 -- to a line that is malformed, and to a function or a width that is not known
 abbrev pub unknownAnswer : Answer
-unknownAnswer = record { refusal = 255; first = 0; second = 0 }
+unknownAnswer = words 255 0 0
 
 -- one word, and no refusal
 abbrev pub patternAnswer : ℕ → Answer
-patternAnswer x = record { refusal = 0; first = x; second = 0 }
+patternAnswer x = words 0 x 0
 
 -- a refusal, and the 64 bits of a signed number
 abbrev pub wholeAnswer : ℕ → ℤ → Answer
-wholeAnswer refusal z = record { refusal = refusal; first = ofZ w64 z; second = 0 }
+wholeAnswer refusal z = words refusal (ofZ w64 z) 0
 
--- A function by its number, at a format. The numbers are decimal here: 16 is a line's 10. No function so far takes the second operand, y.
-unfoldable pub answerAt : Format → ℕ → ℕ → ℕ → Answer
-answerAt f function x y =
+-- A function by its number, at a format. The numbers are decimal here: 16 is a line's 10. First those that answer with more than a word or
+-- take a second operand, which is the pattern y or the number n; then those of one.
+unfoldable pub furtherAt : Format → ℕ → ℕ → ℕ → ℤ → Answer
+furtherAt f function x y n =
+    cond (eqb function 21) (words 0 (modfWhole f x) (modfFraction f x))
+    (cond (eqb function 32) (patternAnswer (fmin f x y))
+    (cond (eqb function 33) (patternAnswer (fmax f x y))
+    (cond (eqb function 34) (words (fmodRefusal f x y) (fmod f x y) 0)
+    (cond (eqb function 35) (words (ldexpRefusal f x n) (ldexp f x n) 0)
+    (cond (eqb function 36) (words (nextafterRefusal f x y) (nextafter f x y) 0)
+    (cond (eqb function 37) (words 0 (frexpFraction f x) (ofZ w64 (frexpExponent f x))) unknownAnswer))))))
+
+unfoldable pub answerAt : Format → ℕ → ℕ → ℕ → ℤ → Answer
+answerAt f function x y n =
     cond (eqb function 16) (patternAnswer (integral f Down x))
     (cond (eqb function 17) (patternAnswer (integral f Up x))
     (cond (eqb function 18) (patternAnswer (integral f TowardZero x))
@@ -34,10 +53,10 @@ answerAt f function x y =
     (cond (eqb function 22) (patternAnswer (absolute f x))
     (cond (eqb function 23) (patternAnswer (negated f x))
     (cond (eqb function 24) (wholeAnswer (lroundRefusal f x) (lroundValue f x))
-    (cond (eqb function 25) (patternAnswer (classNumber (classify f x))) unknownAnswer))))))))
+    (cond (eqb function 25) (patternAnswer (classNumber (classify f x))) (furtherAt f function x y n)))))))))
 
--- the first operand of a case of 32 bits is taken modulo 2^32
+-- the patterns of a case of 32 bits are taken modulo 2^32
 unfoldable pub answerOf : Case → Answer
 answerOf c =
-    cond (eqb (c .width) 64) (answerAt binary64 (c .function) (c .x) (c .y))
-    (cond (eqb (c .width) 32) (answerAt binary32 (c .function) (c .x % 2 ^ 32) (c .y)) unknownAnswer)
+    cond (eqb (c .width) 64) (answerAt binary64 (c .function) (c .x) (c .y) (toZ w64 (c .y)))
+    (cond (eqb (c .width) 32) (answerAt binary32 (c .function) (c .x % 2 ^ 32) (c .y % 2 ^ 32) (toZ w64 (c .y))) unknownAnswer)

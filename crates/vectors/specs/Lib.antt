@@ -1,4 +1,3 @@
 -- What the contracts of `vectors` cite.
-pub mod Hex
 pub mod Answer
 pub mod Line

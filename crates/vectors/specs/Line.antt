@@ -4,13 +4,13 @@ use mathlib.Core.Bool.{Bool, _&&_, cond}
 use mathlib.Core.List.{List, [], _∷_, _++_}
 use lib.Dec.{eqb}
 use lib.ListN.{getD, take, drop}
-use Rattle.io.specs.Digits.{digits}
-use Rattle.vectors.specs.declared.hex.Field.{Field}
-use Rattle.vectors.specs.declared.hex.Field.the-variants.{Value, Malformed as Bad}
+use Rattle.hex.specs.Hex.{digits}
+use Rattle.hex.specs.declared.Field.{Field}
+use Rattle.hex.specs.declared.Field.the-variants.{Value, Malformed as Bad}
 use Rattle.vectors.specs.declared.case.Parsed.{Parsed}
 use Rattle.vectors.specs.declared.case.Parsed.the-variants.{Case, Malformed}
 use Rattle.vectors.specs.declared.answer.Answer.{Answer}
-use Rattle.vectors.specs.Hex.{fieldOf}
+use Rattle.hex.specs.Hex.{fieldOf}
 use Rattle.vectors.specs.Answer.{answerOf, unknownAnswer}
 
 -- ---- input: function, width, x, y, as nn ww xxxxxxxxxxxxxxxx yyyyyyyyyyyyyyyy
@@ -34,7 +34,7 @@ caseOf s = cond (separatedBy s) (fromFields (fieldOf s 0 2 0) (fieldOf s 3 2 0) 
 -- ---- output: refusal, first word, second word, as rr aaaaaaaaaaaaaaaa bbbbbbbbbbbbbbbb
 
 unfoldable pub lineOf : Answer → List ℕ
-lineOf a = digits 16 2 (a .refusal) ++ (32 ∷ (digits 16 16 (a .first) ++ (32 ∷ (digits 16 16 (a .second) ++ (10 ∷ [])))))
+lineOf a = digits 2 (a .refusal) ++ (32 ∷ (digits 16 (a .first) ++ (32 ∷ (digits 16 (a .second) ++ (10 ∷ [])))))
 
 -- ---- a line of input, and the first n of them
 

@@ -5,11 +5,11 @@ ghost use mir.Syntax.{w64};
 ghost use mir.Val.{ofZ};
 ghost use Rattle.float_format.specs.Format.{classNumber};
 ghost use Rattle.rounding.specs.Answer.{refusalOf, valueOf};
-ghost use Rattle.vectors.specs.Answer.{patternAnswer, unknownAnswer, wholeAnswer};
+ghost use Rattle.vectors.specs.Answer.{words, patternAnswer, unknownAnswer, wholeAnswer};
 ghost use Rattle.vectors.specs.Line.{lineOf};
-use crate::hex;
 use float_format::Class;
 use rounding::Integer;
+use twos_complement::word;
 
 // The bytes of a line of output, with its line feed.
 pub const LINE: usize = 37;
@@ -44,6 +44,36 @@ impl Answer {
         }
     }
 
+    // A refusal's number and the word returned.
+    pub fn refusable(refusal: u64, word: u64) -> Answer
+        ensures { λ r. ⌜ r ≡ words refusal word 0 ⌝ }
+    {
+        Answer {
+            refusal,
+            first: word,
+            second: 0,
+        }
+    }
+
+    // Two patterns, and no refusal.
+    pub fn parts(whole: u64, fraction: u64) -> Answer
+        ensures { λ r. ⌜ r ≡ words 0 whole fraction ⌝ }
+    {
+        Answer {
+            refusal: 0,
+            first: whole,
+            second: fraction,
+        }
+    }
+
+    // A pattern and an exponent.
+    pub fn scaled(fraction: u64, exponent: i64) -> Answer
+        ensures { λ r. ⌜ r ≡ words 0 fraction (ofZ w64 exponent) ⌝ }
+    {
+        let second = word(exponent);
+        Self::parts(fraction, second)
+    }
+
     // The number of a class.
     pub fn class(c: Class) -> Answer
         ensures { λ r. ⌜ r ≡ patternAnswer (classNumber c) ⌝ }
@@ -55,7 +85,7 @@ impl Answer {
     pub fn integer(n: Integer) -> Answer
         ensures { λ r. ⌜ r ≡ wholeAnswer (refusalOf n) (valueOf n) ⌝ }
     {
-        let first = twos_complement(n.value());
+        let first = word(n.value());
         Answer {
             refusal: n.refusal(),
             first,
@@ -75,11 +105,4 @@ impl Answer {
         hex::write(self.second, &mut line[20..36]);
         line[36] = b'\n';
     }
-}
-
-// The 64 bits of z. Below 0 they are those of !z flipped, and !z is at least 0, so that the cast keeps it.
-fn twos_complement(z: i64) -> u64
-    ensures { λ r. ⌜ r ≡ ofZ w64 z ⌝ }
-{
-    if z >= 0 { z as u64 } else { !((!z) as u64) }
 }

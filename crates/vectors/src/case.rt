@@ -3,14 +3,16 @@ ghost use mathlib.Core.Path.{_≡_};
 ghost use Prim.Native.Nat.{_%_, _^_};
 ghost use lib.ListN.{length};
 ghost use Rattle.float_format.specs.Format.{binary32, binary64};
-ghost use Rattle.vectors.specs.Answer.{answerAt, answerOf};
+ghost use mir.Syntax.{w64};
+ghost use mir.Val.{toZ};
+ghost use Rattle.vectors.specs.Answer.{furtherAt, answerAt, answerOf};
 ghost use Rattle.vectors.specs.Line.{separatedBy, caseOf};
 use crate::answer::Answer;
-use crate::hex;
 use float_format::Binary32;
 use float_format::Binary64;
 use rounding::binary32;
 use rounding::binary64;
+use twos_complement::signed;
 
 // The bytes of a line of input, with its line feed.
 pub const LINE: usize = 40;
@@ -89,7 +91,7 @@ impl Case {
 
     // The first operand is a pattern of binary64.
     fn answer64(self) -> Answer
-        ensures { λ r. ⌜ r ≡ answerAt binary64 (self .function) (self .x) (self .y) ⌝ }
+        ensures { λ r. ⌜ r ≡ answerAt binary64 (self .function) (self .x) (self .y) (toZ w64 (self .y)) ⌝ }
     {
         let function = self.function;
         let x = self.x;
@@ -103,13 +105,47 @@ impl Case {
             0x17 => Answer::pattern(Binary64::negate(x)),
             0x18 => Answer::integer(binary64::lround(x)),
             0x19 => Answer::class(Binary64::classify(x)),
+            _ => self.further64(),
+        }
+    }
+
+    // The functions of two operands, and those of two words.
+    fn further64(self) -> Answer
+        ensures { λ r. ⌜ r ≡ furtherAt binary64 (self .function) (self .x) (self .y) (toZ w64 (self .y)) ⌝ }
+    {
+        let function = self.function;
+        let x = self.x;
+        let y = self.y;
+        match function {
+            0x15 => {
+                let r = splitting::binary64::modf_patterns(x);
+                Answer::parts(r.whole, r.fraction)
+            }
+            0x20 => Answer::pattern(ordering::binary64::fmin(x, y)),
+            0x21 => Answer::pattern(ordering::binary64::fmax(x, y)),
+            0x22 => {
+                let r = remainder::binary64::fmod(x, y);
+                Answer::refusable(r.refusal, r.word)
+            }
+            0x23 => {
+                let r = scaling::binary64::ldexp(x, signed(y));
+                Answer::refusable(r.refusal, r.word)
+            }
+            0x24 => {
+                let r = ordering::binary64::nextafter(x, y);
+                Answer::refusable(r.refusal, r.word)
+            }
+            0x25 => {
+                let r = scaling::binary64::frexp(x);
+                Answer::scaled(r.fraction, r.exponent)
+            }
             _ => Answer::unknown(),
         }
     }
 
-    // The first operand is taken modulo 2^32, as a pattern of binary32.
+    // The operands are taken modulo 2^32, as patterns of binary32.
     fn answer32(self) -> Answer
-        ensures { λ r. ⌜ r ≡ answerAt binary32 (self .function) (self .x % 2 ^ 32) (self .y) ⌝ }
+        ensures { λ r. ⌜ r ≡ answerAt binary32 (self .function) (self .x % 2 ^ 32) (self .y % 2 ^ 32) (toZ w64 (self .y)) ⌝ }
     {
         let function = self.function;
         let x = (self.x % 0x1_0000_0000) as u32;
@@ -123,6 +159,40 @@ impl Case {
             0x17 => Answer::pattern(Binary32::negate(x) as u64),
             0x18 => Answer::integer(binary32::lround(x)),
             0x19 => Answer::class(Binary32::classify(x)),
+            _ => self.further32(),
+        }
+    }
+
+    fn further32(self) -> Answer
+        ensures { λ r. ⌜ r ≡ furtherAt binary32 (self .function) (self .x % 2 ^ 32) (self .y % 2 ^ 32) (toZ w64 (self .y)) ⌝ }
+    {
+        let function = self.function;
+        let x = (self.x % 0x1_0000_0000) as u32;
+        let y = (self.y % 0x1_0000_0000) as u32;
+        let n = signed(self.y);
+        match function {
+            0x15 => {
+                let r = splitting::binary32::modf_patterns(x);
+                Answer::parts(r.whole as u64, r.fraction as u64)
+            }
+            0x20 => Answer::pattern(ordering::binary32::fmin(x, y) as u64),
+            0x21 => Answer::pattern(ordering::binary32::fmax(x, y) as u64),
+            0x22 => {
+                let r = remainder::binary32::fmod(x, y);
+                Answer::refusable(r.refusal, r.word as u64)
+            }
+            0x23 => {
+                let r = scaling::binary32::ldexp(x, n);
+                Answer::refusable(r.refusal, r.word as u64)
+            }
+            0x24 => {
+                let r = ordering::binary32::nextafter(x, y);
+                Answer::refusable(r.refusal, r.word as u64)
+            }
+            0x25 => {
+                let r = scaling::binary32::frexp(x);
+                Answer::scaled(r.fraction as u64, r.exponent)
+            }
             _ => Answer::unknown(),
         }
     }

@@ -10,7 +10,6 @@ ghost use Rattle.vectors.specs.Line.{responseOf, responses};
 
 mod answer;
 mod case;
-mod hex;
 
 use answer::Answer;
 use case::Parsed;

@@ -56,6 +56,11 @@ impl Format {
         self.largest_exponent_field() << self.fraction_bits
     }
 
+    /// The NaN that a refusal returns: positive, quiet, and nothing else in its fraction.
+    pub const fn default_nan(&self) -> u64 {
+        self.quieted(self.infinity())
+    }
+
     pub const fn is_negative(&self, x: u64) -> bool {
         x & self.sign_bit() != 0
     }
@@ -84,6 +89,13 @@ impl Format {
         x | 1 << (self.fraction_bits - 1)
     }
 
+    /// The first NaN of two operands, if there is one.
+    pub fn first_nan(&self, x: u64, y: u64) -> Option<u64> {
+        [x, y]
+            .into_iter()
+            .find(|&operand| self.classify(operand) == Class::Nan)
+    }
+
     /// Clears the sign bit, of a NaN too; nothing else changes.
     pub const fn fabs(&self, x: u64) -> u64 {
         x & !self.sign_bit()
@@ -98,6 +110,13 @@ impl Format {
     /// so it counts 2^F times 2^(bias - 1).
     pub const fn one_log2(&self) -> u32 {
         self.fraction_bits + self.bias() as u32 - 1
+    }
+
+    /// The power of two that infinity would be in units, were it a number by the same rule: its
+    /// fraction is 0 and its exponent field the largest. Every finite number counts less, and a
+    /// result that counts as much has overflowed.
+    pub const fn infinity_log2(&self) -> u32 {
+        self.fraction_bits + self.largest_exponent_field() as u32 - 1
     }
 
     /// How many units a finite x counts, its sign left aside.

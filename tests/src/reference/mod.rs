@@ -3,10 +3,15 @@
 //! A finite pattern stands for a signed whole number of units (2^-1074 for f64, 2^-149 for f32),
 //! and every function is worked on these whole numbers. There is no floating-point operation in
 //! here, and no trick on patterns: a result is a whole number first and turned into its pattern
-//! last.
+//! last. `short` alone takes shorter ways to the same answers, and is held against the others.
 
+pub mod fmod;
 pub mod format;
+pub mod ldexp;
 pub mod natural;
+pub mod order;
+pub mod overflow;
+pub mod parts;
 pub mod rounding;
 pub mod short;
 

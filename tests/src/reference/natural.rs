@@ -81,9 +81,44 @@ impl Natural {
         )
     }
 
-    /// Quotient and remainder by any divisor but zero, a binary digit at a time from the top.
+    /// The power of two in a number other than zero: how many of its lowest digits are 0.
+    fn trailing_zeros(&self) -> u32 {
+        let zero_limbs = self.limbs.iter().take_while(|&&limb| limb == 0).count();
+        zero_limbs as u32 * 64 + self.limbs[zero_limbs].trailing_zeros()
+    }
+
+    /// Quotient and remainder by any divisor but zero. The power of two that both numbers hold is
+    /// cancelled first, and the remainder multiplied by it again: a·2^k = q·(b·2^k) + r·2^k where
+    /// a = q·b + r.
     pub fn div_rem(&self, divisor: &Natural) -> (Natural, Natural) {
         assert!(!divisor.is_zero(), "division by zero");
+        if self < divisor {
+            return (Natural::from(0), self.clone());
+        }
+        let shared = self.trailing_zeros().min(divisor.trailing_zeros());
+        let (dividend, _) = self.div_rem_power_of_two(shared);
+        let (divisor, _) = divisor.div_rem_power_of_two(shared);
+        let (quotient, remainder) = match divisor.to_u64() {
+            Some(word) => dividend.div_rem_by_limbs(word),
+            None => dividend.div_rem_by_digits(&divisor),
+        };
+        (quotient, &remainder << shared)
+    }
+
+    /// Long division by a machine word, a limb at a time from the top.
+    fn div_rem_by_limbs(&self, divisor: u64) -> (Natural, Natural) {
+        let mut quotient = vec![0; self.limbs.len()];
+        let mut remainder = 0;
+        for (i, &limb) in self.limbs.iter().enumerate().rev() {
+            let partial = (remainder as u128) << 64 | limb as u128;
+            quotient[i] = (partial / divisor as u128) as u64;
+            remainder = (partial % divisor as u128) as u64;
+        }
+        (Natural::from_limbs(quotient), Natural::from(remainder))
+    }
+
+    /// Long division by any divisor, a binary digit at a time from the top.
+    fn div_rem_by_digits(&self, divisor: &Natural) -> (Natural, Natural) {
         let mut quotient = Natural::from(0);
         let mut remainder = Natural::from(0);
         for place in (0..self.size()).rev() {
@@ -248,6 +283,23 @@ mod tests {
                 let (quotient, remainder) = natural(a).div_rem(&natural(b));
                 assert_eq!(quotient, natural(a / b), "{a} / {b}");
                 assert_eq!(remainder, natural(a % b), "{a} % {b}");
+            }
+        }
+    }
+
+    /// The quick ways of the division give what the plain one does, on long numbers too.
+    #[test]
+    fn divides_as_digit_by_digit() {
+        let mut random = Random::new(4);
+        for exponent in (0..400).step_by(7) {
+            for shift in (0..400).step_by(11) {
+                let low = random.word() >> (exponent % 64);
+                let a = &(&Natural::from(random.word() | 1) << exponent) + &Natural::from(low);
+                let a = &a << (shift / 3);
+                for b in [1, 3, random.word() >> 11 | 1, random.word() | 1 << 63] {
+                    let b = &Natural::from(b) << shift;
+                    assert_eq!(a.div_rem(&b), a.div_rem_by_digits(&b), "{a:?} / {b:?}");
+                }
             }
         }
     }

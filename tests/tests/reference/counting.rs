@@ -13,6 +13,9 @@ pub const SMALL: [Format; 5] = [
     Format::new(10, 5),
 ];
 
+/// Those so small that every pair of patterns is tried.
+pub const PAIRED: [Format; 4] = [SMALL[0], SMALL[1], SMALL[2], SMALL[3]];
+
 /// Small, but with numbers beyond 2^63: 2^63 and 1.5 · 2^63 are its largest.
 pub const WIDE: Format = Format::new(1, 7);
 
@@ -20,6 +23,8 @@ pub struct Counted {
     sign_bit: u64,
     /// Of the finite patterns without sign, in turn.
     units: Vec<u128>,
+    /// What would come after them.
+    next: u128,
     /// What 1.0 counts.
     pub one: i128,
 }
@@ -43,6 +48,7 @@ impl Counted {
             sign_bit: fractions * fields,
             one: units[(fields as usize / 2 - 1) * fractions as usize] as i128,
             units,
+            next,
         }
     }
 
@@ -62,6 +68,25 @@ impl Counted {
     /// The index of infinity, one past all finite ones.
     pub fn infinity(&self) -> usize {
         self.units.len()
+    }
+
+    /// Whether the pattern is finite or an infinity.
+    pub fn is_number(&self, x: u64) -> bool {
+        self.index(x) <= self.infinity()
+    }
+
+    /// The pattern with this index and sign.
+    pub fn signed(&self, index: usize, negative: bool) -> u64 {
+        index as u64 + if negative { self.sign_bit } else { 0 }
+    }
+
+    /// The number of units at an index. Infinity has those that counting on would give it.
+    pub fn units(&self, index: usize) -> u128 {
+        if index == self.infinity() {
+            self.next
+        } else {
+            self.units[index]
+        }
     }
 
     /// The number of units that a finite pattern stands for.

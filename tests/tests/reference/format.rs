@@ -11,6 +11,8 @@ fn the_widths_are_those_of_document_01() {
     assert_eq!(BINARY64.largest_exponent_field(), 2047);
     assert_eq!(BINARY32.largest_exponent_field(), 255);
     assert_eq!((BINARY64.one_log2(), BINARY32.one_log2()), (1074, 149));
+    assert_eq!(BINARY64.default_nan(), 0x7ff8000000000000);
+    assert_eq!(BINARY32.default_nan(), 0x7fc00000);
 }
 
 #[test]

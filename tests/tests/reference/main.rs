@@ -2,6 +2,10 @@
 //! pattern is tried.
 
 mod counting;
+mod fmod;
 mod format;
+mod ldexp;
+mod order;
+mod parts;
 mod rounding;
 mod short;

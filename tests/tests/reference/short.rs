@@ -1,6 +1,6 @@
 //! The short form gives the authority's answers.
 
-use crate::counting::{Counted, SMALL, WIDE};
+use crate::counting::{Counted, PAIRED, SMALL, WIDE};
 use estrenwind_tests::functions::{Function, FORMATS, FUNCTIONS};
 use estrenwind_tests::operands::Operands;
 use estrenwind_tests::patterns::Random;
@@ -12,15 +12,47 @@ fn check(function: &Function, format: &Format, [x, y]: [u64; 2]) {
     assert_eq!(answer, expected, "{} {format:?} {x:x} {y:x}", function.name);
 }
 
+fn functions_of(operands: Operands) -> impl Iterator<Item = &'static Function> {
+    FUNCTIONS
+        .iter()
+        .filter(move |function| function.operands == operands)
+}
+
 #[test]
 fn on_every_pattern_of_small_formats() {
-    for function in FUNCTIONS
-        .iter()
-        .filter(|function| function.operands == Operands::Pattern)
-    {
+    for function in functions_of(Operands::Pattern) {
         for format in SMALL.iter().chain([&WIDE]) {
             for x in Counted::new(format).patterns() {
                 check(function, format, [x, 0]);
+            }
+        }
+    }
+}
+
+#[test]
+fn on_every_pair_of_patterns_of_small_formats() {
+    for function in functions_of(Operands::Patterns) {
+        for format in PAIRED.iter().chain([&WIDE]) {
+            let counted = Counted::new(format);
+            for x in counted.patterns() {
+                for y in counted.patterns() {
+                    check(function, format, [x, y]);
+                }
+            }
+        }
+    }
+}
+
+#[test]
+fn on_every_pattern_of_small_formats_and_every_power() {
+    for function in functions_of(Operands::PatternAndWhole) {
+        for format in SMALL.iter().chain([&WIDE]) {
+            let most = format.infinity_log2() as i64 + 4;
+            let ends = [i64::MIN, i64::MIN + 1, i64::MAX - 1, i64::MAX];
+            for x in Counted::new(format).patterns() {
+                for n in (-most..=most).chain(ends) {
+                    check(function, format, [x, n as u64]);
+                }
             }
         }
     }

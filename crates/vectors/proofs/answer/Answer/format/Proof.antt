@@ -7,7 +7,7 @@ use lib.ListN.{length-set}
 use lib.Seq.{length-take-le}
 use denote.Ref.{now}
 use borrow.Author.Needs.{needs}
-use Rattle.io.specs.Digits.{digits}
+use Rattle.hex.specs.Hex.{digits}
 use Rattle.vectors.proofs.Lines.{formatted}
 use Rattle.vectors.proofs.answer.Answer.format.Statement.{statement}
 use Rattle.vectors.proofs.answer.Answer.format.Tie as tie
@@ -75,9 +75,9 @@ returns c =
     let self = s .args .self in
     let line = now (s .args .line) in
     formatted self line (c1 .before .before .write .last .1 .0) (c2 .before .before .write2 .last .1 .0) (c .before .before .write3 .last .1 .0) (s .pre)
-    (c1 .before .before .write .ensures ∙ ap (λ (k : ℕ). digits 16 k (self .refusal)) (length-take-le 2 line (omega (arith, s .pre))))
-    (c2 .before .before .write2 .ensures ∙ ap (λ (k : ℕ). digits 16 k (self .first)) (c2 .before .before .before .write-arg2 .given .2))
-    (c .before .before .write3 .ensures ∙ ap (λ (k : ℕ). digits 16 k (self .second)) (c .before .before .before .write-arg3 .given .2))
+    (c1 .before .before .write .ensures ∙ ap (λ (k : ℕ). digits k (self .refusal)) (length-take-le 2 line (omega (arith, s .pre))))
+    (c2 .before .before .write2 .ensures ∙ ap (λ (k : ℕ). digits k (self .first)) (c2 .before .before .before .write-arg2 .given .2))
+    (c .before .before .write3 .ensures ∙ ap (λ (k : ℕ). digits k (self .second)) (c .before .before .before .write-arg3 .given .2))
 
 pub format-spec : {M : Type 1} → statement M
 format-spec =

@@ -1,5 +1,8 @@
 -- `Case::answer32` meets its contract, an arm at a time: what the function ensures, at the arm's number. Assumes nothing.
 use mathlib.Core.Path.{_∙_, ap}
+use Prim.Native.Nat.{_%_, _^_}
+use mir.Syntax.{w64}
+use mir.Val.{toZ}
 use borrow.Author.Needs.{needs}
 use Rattle.float_format.specs.declared.Class.{Class}
 use Rattle.float_format.specs.Format.{binary32, classNumber}
@@ -86,47 +89,47 @@ classify-requires c κs = search needs
 class-requires : tie.Need-class-requires
 class-requires c κs = search needs
 
-unknown-requires : tie.Need-unknown-requires
-unknown-requires c κs = search needs
+further32-requires : tie.Need-further32-requires
+further32-requires c κs = search needs
 
 returns : tie.Need-returns
 unfolding answerAt
-returns c = c .pattern .ensures ∙ ap patternAnswer (c .before .floor .ensures) ∙ listed binary32 _ (c .before .before .before .before .args .self .y) (c .before .before .match .keys1)
+returns c = c .pattern .ensures ∙ ap patternAnswer (c .before .floor .ensures) ∙ listed binary32 _ (c .before .before .before .before .args .self .y % 2 ^ 32) (toZ w64 (c .before .before .before .before .args .self .y)) (c .before .before .match .keys1)
 
 returns-2 : tie.Need-returns-2
 unfolding answerAt
-returns-2 c = c .pattern2 .ensures ∙ ap patternAnswer (c .before .ceil .ensures) ∙ listed binary32 _ (c .before .before .before .before .args .self .y) (c .before .before .match .keys2)
+returns-2 c = c .pattern2 .ensures ∙ ap patternAnswer (c .before .ceil .ensures) ∙ listed binary32 _ (c .before .before .before .before .args .self .y % 2 ^ 32) (toZ w64 (c .before .before .before .before .args .self .y)) (c .before .before .match .keys2)
 
 returns-3 : tie.Need-returns-3
 unfolding answerAt
-returns-3 c = c .pattern3 .ensures ∙ ap patternAnswer (c .before .trunc .ensures) ∙ listed binary32 _ (c .before .before .before .before .args .self .y) (c .before .before .match .keys3)
+returns-3 c = c .pattern3 .ensures ∙ ap patternAnswer (c .before .trunc .ensures) ∙ listed binary32 _ (c .before .before .before .before .args .self .y % 2 ^ 32) (toZ w64 (c .before .before .before .before .args .self .y)) (c .before .before .match .keys3)
 
 returns-4 : tie.Need-returns-4
 unfolding answerAt
-returns-4 c = c .pattern4 .ensures ∙ ap patternAnswer (c .before .round .ensures) ∙ listed binary32 _ (c .before .before .before .before .args .self .y) (c .before .before .match .keys4)
+returns-4 c = c .pattern4 .ensures ∙ ap patternAnswer (c .before .round .ensures) ∙ listed binary32 _ (c .before .before .before .before .args .self .y % 2 ^ 32) (toZ w64 (c .before .before .before .before .args .self .y)) (c .before .before .match .keys4)
 
 returns-5 : tie.Need-returns-5
 unfolding answerAt
-returns-5 c = c .pattern5 .ensures ∙ ap patternAnswer (c .before .nearbyint .ensures) ∙ listed binary32 _ (c .before .before .before .before .args .self .y) (c .before .before .match .keys5)
+returns-5 c = c .pattern5 .ensures ∙ ap patternAnswer (c .before .nearbyint .ensures) ∙ listed binary32 _ (c .before .before .before .before .args .self .y % 2 ^ 32) (toZ w64 (c .before .before .before .before .args .self .y)) (c .before .before .match .keys5)
 
 returns-6 : tie.Need-returns-6
 unfolding answerAt
-returns-6 c = c .pattern6 .ensures ∙ ap patternAnswer (c .before .fabs .ensures) ∙ listed binary32 _ (c .before .before .before .before .args .self .y) (c .before .before .match .keys6)
+returns-6 c = c .pattern6 .ensures ∙ ap patternAnswer (c .before .fabs .ensures) ∙ listed binary32 _ (c .before .before .before .before .args .self .y % 2 ^ 32) (toZ w64 (c .before .before .before .before .args .self .y)) (c .before .before .match .keys6)
 
 returns-7 : tie.Need-returns-7
 unfolding answerAt
-returns-7 c = c .pattern7 .ensures ∙ ap patternAnswer (c .before .negate .ensures) ∙ listed binary32 _ (c .before .before .before .before .args .self .y) (c .before .before .match .keys7)
+returns-7 c = c .pattern7 .ensures ∙ ap patternAnswer (c .before .negate .ensures) ∙ listed binary32 _ (c .before .before .before .before .args .self .y % 2 ^ 32) (toZ w64 (c .before .before .before .before .args .self .y)) (c .before .before .match .keys7)
 
 returns-8 : tie.Need-returns-8
 unfolding answerAt
-returns-8 c = c .integer .ensures ∙ whole (c .before .lround .ensures .0) (c .before .lround .ensures .1) ∙ listed binary32 _ (c .before .before .before .before .args .self .y) (c .before .before .match .keys8)
+returns-8 c = c .integer .ensures ∙ whole (c .before .lround .ensures .0) (c .before .lround .ensures .1) ∙ listed binary32 _ (c .before .before .before .before .args .self .y % 2 ^ 32) (toZ w64 (c .before .before .before .before .args .self .y)) (c .before .before .match .keys8)
 
 returns-9 : tie.Need-returns-9
 unfolding answerAt
-returns-9 c = c .class .ensures ∙ ap (λ (k : Class). patternAnswer (classNumber k)) (c .before .classify .ensures) ∙ listed binary32 _ (c .before .before .before .before .args .self .y) (c .before .before .match .keys9)
+returns-9 c = c .class .ensures ∙ ap (λ (k : Class). patternAnswer (classNumber k)) (c .before .classify .ensures) ∙ listed binary32 _ (c .before .before .before .before .args .self .y % 2 ^ 32) (toZ w64 (c .before .before .before .before .args .self .y)) (c .before .before .match .keys9)
 
 returns-10 : tie.Need-returns-10
-returns-10 c = c .unknown .ensures ∙ unlisted binary32 _ _ _ (c .before .match .rest)
+returns-10 c = c .further32 .ensures ∙ unlisted binary32 _ _ _ _ (c .before .match .rest)
 
 pub answer32-spec : {M : Type 1} → statement M
 answer32-spec =
@@ -158,7 +161,7 @@ answer32-spec =
     integer-requires
     classify-requires
     class-requires
-    unknown-requires
+    further32-requires
     returns
     returns-2
     returns-3

@@ -1,0 +1,2 @@
+-- One digit more, read or written.
+pub mod Digits

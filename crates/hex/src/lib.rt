@@ -1,0 +1,73 @@
+// Numbers as lower-case hexadecimal digits: read from text, and written to it.
+ghost use mathlib.Core.Path.{_≡_};
+ghost use Prim.Native.Nat.{_+_, _≤_, _<_};
+ghost use lib.ListN.{length};
+ghost use Rattle.hex.specs.Hex.{digitOf, fieldOf, glyphOf, digits};
+
+// What a field of digits says.
+pub enum Field {
+    Value(u64),
+    Malformed,
+}
+
+// The digit's value, and 16 of any other byte.
+fn digit(b: u8) -> u64
+    ensures { λ r. ⌜ r ≡ digitOf b ⌝ }
+{
+    if b < b'0' {
+        return 16;
+    }
+    if b <= b'9' {
+        return (b - b'0') as u64;
+    }
+    if b < b'a' {
+        return 16;
+    }
+    if b <= b'f' {
+        return (b - b'a' + 10) as u64;
+    }
+    16
+}
+
+// The n digits of s from at: at most 16, so that their value fits a word.
+pub fn read(s: &[u8], at: usize, n: usize) -> Field
+    requires { ⌜ (at + n ≤ length (now s)) × (n ≤ 16) ⌝ }
+    ensures { λ r. ⌜ r ≡ fieldOf (now (s .entry)) at n 0 ⌝ }
+{
+    let mut value: u64 = 0;
+    let mut i: usize = 0;
+    while i < n {
+        let d = digit(s[at + i]);
+        if d > 15 {
+            return Field::Malformed;
+        }
+        value = value * 16 + d;
+        i += 1;
+    }
+    Field::Value(value)
+}
+
+// The digit of the value d.
+fn glyph(d: u64) -> u8
+    requires { ⌜ d < 16 ⌝ }
+    ensures { λ r. ⌜ r ≡ glyphOf d ⌝ }
+{
+    if d < 10 {
+        b'0' + d as u8
+    } else {
+        b'a' + (d - 10) as u8
+    }
+}
+
+// Fills out with the last digits of n, as many as it has room for.
+pub fn write(n: u64, out: &mut [u8])
+    ensures { λ _. ⌜ now (out .exit) ≡ digits (length (now (out .entry))) n ⌝ }
+{
+    let mut rest = n;
+    let mut i = out.len();
+    while i > 0 {
+        i -= 1;
+        out[i] = glyph(rest % 16);
+        rest /= 16;
+    }
+}

@@ -1,0 +1,51 @@
+-- Choosing by the order of numbers, and stepping along it (document 01, "Function rules": nextafter, fmin, fmax). Definitions only;
+-- assumes nothing.
+use mathlib.Core.Bool.{Bool, not, _&&_, _||_, cond}
+use Prim.Native.Nat.{ℕ, _+_, _-_}
+use lib.Dec.{ltb, eqb}
+use Rattle.float_format.specs.Format.{Format, negative, unsigned, signed, isNan, isInfinite, isZero, quieted}
+use Rattle.float_format.specs.Number.{above, under}
+
+-- ---- the order as tests: x's number is below y's, or the same (`AtMost` says it as a fact)
+
+abbrev pub below : Format → ℕ → ℕ → Bool
+below f x y = ltb (above f x + under f y) (above f y + under f x)
+
+abbrev pub same : Format → ℕ → ℕ → Bool
+same f x y = eqb (above f x + under f y) (above f y + under f x)
+
+-- ---- fmin, fmax
+
+-- which operand comes first where one of two is chosen: of equal operands neither does, and the first operand is given
+abbrev pub before : Format → ℕ → ℕ → Bool
+before f x y = below f x y
+
+-- the second operand where t, else the first; one NaN gives the other operand, two give the first quieted
+abbrev pub chosen : Format → Bool → ℕ → ℕ → ℕ
+chosen f t x y = cond (isNan f x) (cond (isNan f y) (quieted f x) y) (cond (isNan f y) x (cond t y x))
+
+unfoldable pub fmin : Format → ℕ → ℕ → ℕ
+fmin f x y = chosen f (before f y x) x y
+
+unfoldable pub fmax : Format → ℕ → ℕ → ℕ
+fmax f x y = chosen f (before f x y) x y
+
+-- ---- nextafter
+
+-- whether y lies on the side of x away from zero
+abbrev pub outward : Format → ℕ → ℕ → Bool
+outward f x y = cond (negative f x) (below f y x) (below f x y)
+
+-- The neighbour of x towards y: the next pattern away from zero or the one before it, x's sign kept. From zero the smallest subnormal of
+-- y's sign. The first NaN is quieted, and equal operands give the second.
+unfoldable pub nextafter : Format → ℕ → ℕ → ℕ
+nextafter f x y =
+    cond (isNan f x) (quieted f x)
+    (cond (isNan f y) (quieted f y)
+    (cond (same f x y) y
+    (cond (isZero f x) (signed f (negative f y) 1)
+    (signed f (negative f x) (cond (outward f x y) (unsigned f x + 1) (unsigned f x - 1))))))
+
+-- refusal 3: x finite, the result infinite; 0 where there is none
+unfoldable pub nextafterRefusal : Format → ℕ → ℕ → ℕ
+nextafterRefusal f x y = cond (not (isNan f x) && not (isInfinite f x) && isInfinite f (nextafter f x y)) 3 0

@@ -1,0 +1,59 @@
+-- `binary32::fmod` meets its contract: past the first test both operands are ordinary. Assumes nothing.
+use mathlib.Core.Path.{sym, _∙_}
+use native.Mathlib.Omega.{arith}
+use borrow.Author.Tests.{ltb-false}
+use Rattle.float_format.specs.Format.{binary32}
+use Rattle.remainder.specs.Shape.{Ordinary}
+use Rattle.remainder.proofs.Cases.{ordinary, smaller-returns, left-refuses}
+use borrow.Author.Needs.{needs}
+use Rattle.remainder.proofs.binary32.fmod.Statement.{statement}
+use Rattle.remainder.proofs.binary32.fmod.Tie as tie
+
+at : (c : tie.Else1) → Ordinary binary32 (c .before .before .args .x) (c .before .before .args .y)
+at c =
+    ordinary binary32 (c .before .before .args .x) (c .before .before .args .y) (search needs) (omega arith) (omega arith) (omega arith) (sym (c .before .special .ensures) ∙ c .if1 .left)
+
+special-requires : tie.Need-special-requires
+special-requires c κs = search needs
+
+special-answer-requires : tie.Need-special-answer-requires
+special-answer-requires c κs = (search needs, omega arith, omega arith, sym (c .before .special .ensures) ∙ c .if1 .taken)
+
+cast-t10 : tie.Need-cast-t10
+cast-t10 c = search needs
+
+returns : tie.Need-returns
+returns c = search needs
+
+smaller-requires : tie.Need-smaller-requires
+smaller-requires c κs = search needs
+
+returns-2 : tie.Need-returns-2
+returns-2 c = smaller-returns binary32 (c .before .before .before .before .args .x) (c .before .before .before .before .args .y) (at (c .before .before)) (c .before .smaller .ensures) (c .if2 .taken)
+
+remainder-at-scale-requires : tie.Need-remainder-at-scale-requires
+remainder-at-scale-requires c κs = (at (c .before .before), ltb-false _ _ (sym (c .before .smaller .ensures) ∙ c .if2 .left))
+
+with-remainder-requires : tie.Need-with-remainder-requires
+with-remainder-requires c κs = (at (c .before .before .before), c .remainder-at-scale .ensures)
+
+cast-t13 : tie.Need-cast-t13
+cast-t13 c = search needs
+
+returns-3 : tie.Need-returns-3
+returns-3 c = (c .with-remainder .ensures .0, left-refuses binary32 (c .before .before .before .before .before .before .args .x) (c .before .before .before .before .before .before .args .y) (at (c .before .before .before .before)))
+
+pub fmod-spec : {M : Type 1} → statement M
+fmod-spec =
+    tie.close
+    (tie.spec
+    special-requires
+    special-answer-requires
+    cast-t10
+    returns
+    smaller-requires
+    returns-2
+    remainder-at-scale-requires
+    with-remainder-requires
+    cast-t13
+    returns-3)

@@ -1,0 +1,3 @@
+-- What the contracts of fmod cite.
+pub mod Remainder
+pub mod Shape

@@ -1,0 +1,3 @@
+-- What the contracts of frexp and ldexp cite.
+pub mod Scaling
+pub mod Position

@@ -1,0 +1,3 @@
+-- What the contracts of modf cite.
+pub mod Splitting
+pub mod Answer

@@ -1,0 +1,2 @@
+-- Laws of signed numbers and their words.
+pub mod Signs
