@@ -429,7 +429,7 @@ static void print_machine(void)
         fclose(cpu);
     printf("glibc    %s%s\n", gnu_get_libc_version(), __builtin_cpu_supports("sse4.1") ? ", SSE4.1 chosen at run time" : "");
     printf("musl     %s\nnewlib   %s\ngcc      %s\n", MUSL_VERSION, NEWLIB_VERSION, __VERSION__);
-    printf("identity call %.2f ns; medians (and least) of %d repetitions; %ld times dropped for a disturbance\n", fastest,
+    printf("identity call %.2f ns; medians (and least) of at most %d repetitions; %ld times dropped for a disturbance\n", fastest,
            SAMPLES, dropped);
 }
 
