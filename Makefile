@@ -40,7 +40,7 @@ demo: build  ## show what each rounding makes of a dozen texture indices
 test:  ## the whole gate: .ci/run
 	bash .ci/run
 
-test-c: build  ## compile the header as C99 and C++11, check the marked cases, read the machine code
+test-c: build  ## compile the header as C99 and C++11, check the marked cases, read the machine code, measure the stack
 	@$(call need,$(CC),compile the C tests)
 	@$(call need,objdump,read the machine code (binutils))
 	$(CC) -std=c99 $(CFLAGS) $(WARNINGS) -Ibuild tests/c/compile.c $(LIBRARY) -lm -o build/compile-c
@@ -53,6 +53,8 @@ test-c: build  ## compile the header as C99 and C++11, check the marked cases, r
 		echo "$(CXX) is missing: the C++ test is left out"; \
 	fi
 	sh tests/c/machine_code.sh $(LIBRARY)
+	$(CC) -std=gnu11 $(CFLAGS) $(WARNINGS) -Ibuild tests/c/stack.c $(LIBRARY) -lpthread -o build/stack
+	build/stack
 
 test-rust: build  ## compare the library with the independent second implementation
 	@$(call need,cargo,build the Rust tests)
@@ -62,13 +64,17 @@ test-exhaustive: build  ## compare them on every f32 there is, 2^32 patterns a f
 	@$(call need,cargo,build the Rust tests)
 	cargo run $(CARGO_TESTS) --bin exhaustive
 
-bench: build  ## time single calls beside glibc, musl and newlib, and check the targets
+bench: build  ## time single calls beside glibc, musl and newlib, check the targets, and time runs beside a plain interpreter
 	@$(call need,$(CC),compile the benchmark)
 	CC=$(CC) sh bench/references.sh build/bench
 	$(CC) -std=gnu99 -O2 -Wall -Wextra -falign-functions=64 -falign-loops=64 -Ibuild -Ibuild/bench bench/bench.c \
 		build/bench/musl.o build/bench/newlib.o $(LIBRARY) -lm -o build/bench/bench
+	@$(call need,cargo,build the plain interpreter)
+	cargo build --offline --quiet --profile speed --manifest-path tests/Cargo.toml --bin recipe_speed
 	@echo
 	@build/bench/bench
+	@echo
+	@tests/target/speed/recipe_speed
 
 bench-deps:  ## install musl and newlib's source for the benchmark (Debian, as root)
 	@$(call need,apt-get,install packages)

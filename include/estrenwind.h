@@ -1,5 +1,5 @@
 /*
- * Estrenwind: rounding, splitting, scaling and remainders of IEEE 754 numbers, exact to the last bit.
+ * Estrenwind: rounding, splitting, scaling and remainders of IEEE 754 numbers, exact to the last bit, and recipes of such steps.
  *
  * A function whose name ends in _f64 or _f32 takes and returns bit patterns: the 64 bits of a double as a uint64_t, the 32
  * bits of a float as a uint32_t. A NaN's sign and payload pass through a pattern untouched. Under each pair stand two forms
@@ -16,6 +16,7 @@
 #ifndef ESTRENWIND_H
 #define ESTRENWIND_H
 
+#include <stddef.h>
 #include <stdint.h>
 #include <string.h>
 
@@ -38,7 +39,29 @@ enum {
     EW_ACCEPTED = 0,
     EW_REFUSED_NAN = 1,     /* a NaN has no whole number */
     EW_REFUSED_OPERAND = 2, /* an infinite number has no remainder, and none is left by zero */
-    EW_REFUSED_RANGE = 3    /* the result is infinite or does not fit */
+    EW_REFUSED_RANGE = 3,   /* the result is infinite or does not fit */
+
+    /* A recipe's text; the place is the step's number, but 0 for the length. */
+    EW_REFUSED_LENGTH = 10,   /* no line, not whole lines of 39 bytes, or more than 128 */
+    EW_REFUSED_DIGIT = 11,    /* not a lower-case hexadecimal digit, or a line without its line feed */
+    EW_REFUSED_OPCODE = 12,   /* an opcode that there is not */
+    EW_REFUSED_UNUSED = 13,   /* a field that the step does not use is not zero */
+    EW_REFUSED_AHEAD = 14,    /* an operand that does not stand before the step */
+    EW_REFUSED_KIND = 15,     /* an operand of the wrong kind */
+    EW_REFUSED_DECLARED = 16, /* a NaN in a double input or constant, or an input's low end above its high end */
+    EW_REFUSED_INPUTS = 17,   /* a seventeenth input */
+
+    /* A step of a run; the place is its number. */
+    EW_REFUSED_REMAINDER = 20, /* fmod of an infinite number, or by zero */
+    EW_REFUSED_OVERFLOW = 21,  /* lround, a whole sum or difference, or ldexp out of range */
+    EW_REFUSED_INEXACT = 22,   /* a whole number over 2^53 in magnitude, to be made a double */
+
+    /* A frame; the place is 0, but the input's step for its range. */
+    EW_REFUSED_FRAME = 30,       /* not 16 digits an input */
+    EW_REFUSED_FRAME_DIGIT = 31, /* not a lower-case hexadecimal digit */
+    EW_REFUSED_INPUT = 32,       /* an input that is a NaN or outside its range */
+
+    EW_REFUSED_ROOM = 40 /* lent memory too short; the place is 0 */
 };
 
 /* A pattern, and the refusal's number; what the pattern is where one is refused, each function says. Then the same of values. */
@@ -317,6 +340,29 @@ static inline double ew_fmin(double x, double y) { return ew_value_f64(ew_fmin_f
 static inline float ew_fminf(float x, float y) { return ew_value_f32(ew_fmin_f32(ew_bits_f32(x), ew_bits_f32(y))); }
 static inline double ew_fmax(double x, double y) { return ew_value_f64(ew_fmax_f64(ew_bits_f64(x), ew_bits_f64(y))); }
 static inline float ew_fmaxf(float x, float y) { return ew_value_f32(ew_fmax_f32(ew_bits_f32(x), ew_bits_f32(y))); }
+
+/* ---- Recipes ---- */
+
+/* The kind of a step's value. */
+enum {
+    EW_DOUBLE = 1,
+    EW_WHOLE = 2
+};
+
+/* What a run answers: a refusal's number and place, or the last step's kind and the 64 bits of its value. What is not used is 0. */
+typedef struct { uint64_t refusal, place, kind, word; } ew_run_answer;
+
+/*
+ * ew_run works out every step of a recipe on one frame, and writes each step's 64 bits to words, in step order: a double's pattern,
+ * a whole number's two's complement. Memory past the last step's word stays as it was.
+ *
+ * A recipe is lines of 39 bytes, one a step: opcode 2 lower-case hexadecimal digits, A 2, B 2, P 16, Q 16, a line feed. A frame is 16
+ * digits an input, run together.
+ *
+ * Refuses 10 to 17 for the text, 40 where words has fewer places than the recipe steps, 30, 31 and 32 for the frame, and 20 to 22 for
+ * a step: the first in that order, and no word is written.
+ */
+ew_run_answer ew_run(const uint8_t *text, size_t text_len, const uint8_t *frame, size_t frame_len, uint64_t *words, size_t words_len);
 
 #ifdef __cplusplus
 }

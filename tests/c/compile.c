@@ -399,6 +399,36 @@ static void check_all(void)
     }
 }
 
+/* Document 01's recipe: an input from -2.5 to 7.25, its floor, and that as a whole number. */
+static const char recipe[] = "010000c004000000000000401d000000000000\n"
+                             "10000000000000000000000000000000000000\n"
+                             "18010000000000000000000000000000000000\n";
+
+static void check_run(void)
+{
+    const uint8_t *text = (const uint8_t *)recipe;
+    const size_t length = sizeof recipe - 1;
+    uint64_t words[4] = {5, 6, 7, 8};
+    ew_run_answer r = ew_run(text, length, (const uint8_t *)"401e000000000000", 16, words, 4); /* 7.5: outside */
+    check("run refusal", 0, r.refusal, EW_REFUSED_INPUT);
+    check("run place", 0, r.place, 0);
+    check("run kind", 0, r.kind, 0);
+    check("run word", 0, r.word, 0);
+    check("run writes nothing", 0, words[0] ^ words[1] << 8 ^ words[2] << 16, 5 ^ 6 << 8 ^ 7 << 16);
+    r = ew_run(text, length, (const uint8_t *)"bfe0000000000000", 16, words, 4); /* -0.5 */
+    check("run refusal", 1, r.refusal, EW_ACCEPTED);
+    check("run kind", 1, r.kind, EW_WHOLE);
+    check("run word", 1, r.word, 0xffffffffffffffff);
+    check("run words", 0, words[0], 0xbfe0000000000000);
+    check("run words", 1, words[1], 0xbff0000000000000);
+    check("run words", 2, words[2], 0xffffffffffffffff);
+    check("run words", 3, words[3], 8);
+    r = ew_run(text, length, (const uint8_t *)"bfe0000000000000", 16, words, 2);
+    check("run refusal", 2, r.refusal, EW_REFUSED_ROOM);
+    r = ew_run(NULL, 0, NULL, 0, NULL, 0);
+    check("run refusal", 3, r.refusal, EW_REFUSED_LENGTH);
+}
+
 int main(void)
 {
     static const int modes[] = {FE_TONEAREST, FE_DOWNWARD, FE_UPWARD, FE_TOWARDZERO};
@@ -410,6 +440,7 @@ int main(void)
     for (i = 0; i < LENGTH(modes); i++) {
         fesetround(modes[i]);
         check_all();
+        check_run();
     }
     fesetround(FE_TONEAREST);
     if (failures != 0) {

@@ -1,7 +1,7 @@
 #!/bin/sh
 # Reads the machine code of the library's functions, whatever the compiler made of the source: none may touch a floating-point
-# register, none but fmod may divide, and none but ldexp, whose rare cases are a function of their own, may call or jump to
-# another. machine_code.sh LIBRARY
+# register, none but fmod may divide, and none may call or jump to another but fmod, which recipes share, and ldexp, whose rare
+# cases are a function of their own. machine_code.sh LIBRARY
 set -eu
 library=$1
 functions="floor ceil trunc round nearbyint lround fabs negate classify modf frexp ldexp fmod nextafter fmin fmax"
@@ -12,7 +12,7 @@ calls='[[:space:]]call[a-z]*[[:space:]]|R_X86_64_PLT32'
 checked=0
 for name in $functions; do
     case $name in
-    fmod) wrong="$floating|$calls" ;;
+    fmod) wrong="$floating" ;;
     ldexp) wrong="$floating|$divides" ;;
     *) wrong="$floating|$divides|$calls" ;;
     esac
@@ -29,4 +29,4 @@ for name in $functions; do
         checked=$((checked + 1))
     done
 done
-echo "$checked functions touch no floating-point register; but for fmod none divides, but for ldexp none calls another"
+echo "$checked functions touch no floating-point register; but for fmod none divides, but for fmod and ldexp none calls another"

@@ -9,10 +9,12 @@ pub mod comparison;
 #[cfg(target_arch = "x86_64")]
 pub mod environment;
 pub mod functions;
+pub mod interpreter;
 pub mod library;
 pub mod operands;
 pub mod pairs;
 pub mod patterns;
+pub mod recipes;
 pub mod reference;
 pub mod scalings;
 pub mod vectors;

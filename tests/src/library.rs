@@ -1,6 +1,9 @@
-//! The library's C functions. They take and return numbers only, so every call is safe.
+//! The library's C functions. Those of single values take and return numbers only, so every call is
+//! safe; `run` has a safe form over slices.
 
 use crate::answer::Answer;
+use crate::reference::recipe::{Refusal, StepValue};
+use std::fmt;
 
 /// A whole number and the refusal number, `ew_whole` of the header.
 #[repr(C)]
@@ -93,7 +96,75 @@ impl From<Frexp32> for Answer {
     }
 }
 
+/// What a run gives back, `ew_run_answer` of the header: a refusal's number and place, or the last
+/// step's kind and word. What isn't given is 0.
+#[repr(C)]
+#[derive(Clone, Copy, Debug, PartialEq, Eq)]
+pub struct RunAnswer {
+    pub refusal: u64,
+    pub place: u64,
+    pub kind: u64,
+    pub word: u64,
+}
+
+impl From<Refusal> for RunAnswer {
+    fn from(refusal: Refusal) -> RunAnswer {
+        RunAnswer {
+            refusal: refusal.number,
+            place: refusal.place,
+            kind: 0,
+            word: 0,
+        }
+    }
+}
+
+/// The answer of a completed run whose last step has this value.
+impl From<StepValue> for RunAnswer {
+    fn from(last: StepValue) -> RunAnswer {
+        RunAnswer {
+            refusal: 0,
+            place: 0,
+            kind: last.kind as u64,
+            word: last.word,
+        }
+    }
+}
+
+impl fmt::Display for RunAnswer {
+    fn fmt(&self, f: &mut fmt::Formatter) -> fmt::Result {
+        let (kind, word) = (self.kind, self.word);
+        write!(f, "refusal {} place {} ", self.refusal, self.place)?;
+        write!(f, "kind {kind} word {word:016x}")
+    }
+}
+
+/// `ew_run`: `words` is the lent memory.
+#[inline]
+pub fn run(text: &[u8], frame: &[u8], words: &mut [u64]) -> RunAnswer {
+    // SAFETY: the pointers and lengths are those of slices, and only `words` is lent for writing.
+    unsafe {
+        ew_run(
+            text.as_ptr(),
+            text.len(),
+            frame.as_ptr(),
+            frame.len(),
+            words.as_mut_ptr(),
+            words.len(),
+        )
+    }
+}
+
 unsafe extern "C" {
+    /// Reads `text` and `frame` and writes `words`, each as long as the number after it says. A
+    /// pointer may be null where that is 0.
+    pub fn ew_run(
+        text: *const u8,
+        text_len: usize,
+        frame: *const u8,
+        frame_len: usize,
+        words: *mut u64,
+        words_len: usize,
+    ) -> RunAnswer;
     pub safe fn ew_floor_f64(x: u64) -> u64;
     pub safe fn ew_floor_f32(x: u32) -> u32;
     pub safe fn ew_ceil_f64(x: u64) -> u64;

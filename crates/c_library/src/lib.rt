@@ -1,4 +1,5 @@
 // The C library: each exported function is one call of the layer that has it. include/estrenwind.h declares them.
+use evaluation::RunAnswer;
 use float_format::Binary32;
 use float_format::Binary64;
 use float_format::Word32;
@@ -8,6 +9,7 @@ use scaling::Frexp64;
 use splitting::Patterns32;
 use splitting::Patterns64;
 ghost use mathlib.Core.Path.{_≡_};
+ghost use lib.ListN.{length};
 ghost use Rattle.float_format.specs.Format.{binary32, binary64, classify, classNumber, absolute, negated};
 ghost use Rattle.float_format.specs.Rounding.{integral, lroundRefusal, lroundValue};
 ghost use Rattle.float_format.specs.declared.Direction.the-variants.{Down, Up, TowardZero, HalfAway, HalfEven};
@@ -15,6 +17,7 @@ ghost use Rattle.splitting.specs.Splitting.{modfWhole, modfFraction};
 ghost use Rattle.scaling.specs.Scaling.{frexpFraction, frexpExponent, ldexp, ldexpRefusal};
 ghost use Rattle.remainder.specs.Remainder.{fmod, fmodRefusal};
 ghost use Rattle.ordering.specs.Ordering.{nextafter, nextafterRefusal, fmin, fmax};
+ghost use Rattle.evaluation.specs.Run.{runOf, answerOf, wordsOf};
 
 // A whole number, and the number of the refusal, 0 where there is none.
 #[repr(C)]
@@ -253,4 +256,11 @@ pub extern "C" fn ew_fmax_f32(x: u32, y: u32) -> u32
     ensures { λ r. ⌜ r ≡ fmax binary32 x y ⌝ }
 {
     ordering::binary32::fmax(x, y)
+}
+
+#[no_mangle]
+pub extern "C" fn ew_run(text: &[u8], frame: &[u8], words: &mut [u64]) -> RunAnswer
+    ensures { λ r. ⌜ (r ≡ answerOf (runOf (now (text .entry)) (now (frame .entry)) (length (now (words .entry))))) × (now (words .exit) ≡ wordsOf (runOf (now (text .entry)) (now (frame .entry)) (length (now (words .entry)))) (now (words .entry))) ⌝ }
+{
+    evaluation::run(text, frame, words)
 }

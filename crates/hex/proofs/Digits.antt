@@ -13,15 +13,15 @@ use Rattle.hex.specs.declared.Field.the-variants.{Value, Malformed}
 
 -- ---- reading
 
-bad-suc : (s : List ℕ) (at n a : ℕ) → 15 < digitOf (getD s at 0) → fieldOf s at (suc n) a ≡ Malformed
+pub bad-suc : (s : List ℕ) (at n a : ℕ) → 15 < digitOf (getD s at 0) → fieldOf s at (suc n) a ≡ Malformed
 unfolding fieldOf
 bad-suc s at n a h = rw (fieldOf, lt-ltb 15 (digitOf (getD s at 0)) h)
 
-good-suc : (s : List ℕ) (at n a : ℕ) → digitOf (getD s at 0) ≤ 15 → fieldOf s at (suc n) a ≡ fieldOf s (suc at) n (a * 16 + digitOf (getD s at 0))
+pub good-suc : (s : List ℕ) (at n a : ℕ) → digitOf (getD s at 0) ≤ 15 → fieldOf s at (suc n) a ≡ fieldOf s (suc at) n (a * 16 + digitOf (getD s at 0))
 unfolding fieldOf
 good-suc s at n a h = rw (fieldOf, le-ltb 15 (digitOf (getD s at 0)) h)
 
-done-zero : (s : List ℕ) (at a : ℕ) → fieldOf s at 0 a ≡ Value a
+pub done-zero : (s : List ℕ) (at a : ℕ) → fieldOf s at 0 a ≡ Value a
 unfolding fieldOf
 done-zero s at a = refl
 

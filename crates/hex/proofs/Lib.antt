@@ -1,2 +1,3 @@
--- One digit more, read or written.
+-- One digit more, read or written, and the laws of fields.
 pub mod Digits
+pub mod Laws

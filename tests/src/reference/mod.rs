@@ -12,7 +12,9 @@ pub mod natural;
 pub mod order;
 pub mod overflow;
 pub mod parts;
+pub mod recipe;
 pub mod rounding;
 pub mod short;
+pub mod whole;
 
 pub use format::{Class, Format, BINARY32, BINARY64};

@@ -7,5 +7,6 @@ mod format;
 mod ldexp;
 mod order;
 mod parts;
+mod recipe;
 mod rounding;
 mod short;

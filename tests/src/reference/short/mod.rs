@@ -10,6 +10,7 @@ pub mod ldexp;
 pub mod order;
 pub mod parts;
 pub mod rounding;
+pub mod whole;
 
 use super::format::Format;
 

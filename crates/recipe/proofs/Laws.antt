@@ -1,0 +1,66 @@
+-- What a user of the reader would state, over every form of text, and what the answer's fields tell. Assumes nothing.
+use mathlib.Core.Path.{_≡_, refl}
+use mathlib.Core.List.{List}
+use mathlib.Core.Logic.{_⊎_, ⊎-elim}
+use Prim.Native.Nat.{ℕ, _/_, _≤_, _<_}
+use native.Mathlib.Omega.{arith}
+use lib.ListN.{length, take}
+use lib.Seq.{take-length}
+use Rattle.recipe.specs.declared.Step.{Step}
+use Rattle.recipe.specs.declared.Recipe.{Recipe}
+use Rattle.recipe.specs.Text.{Form, lineLength, short, steps, refused, inputsIn, stepRefusal, badLength, readText}
+use Rattle.recipe.specs.Answer.{Passed, Says, Formed, Checked}
+use Rattle.recipe.proofs.Formed.{checked, numbered, formed-by, refused-by, inputs-so-far, says-which, says-count}
+
+-- ---- one step
+
+-- A step that is refused for nothing passes each check.
+pub step-checked : (l : List Step) (t : Step) → stepRefusal l t ≡ 0 → Checked l t
+step-checked l t e = checked l t e
+
+-- A step's refusal is 0, or 12 to 17.
+pub step-number : (l : List Step) (t : Step) → (stepRefusal l t ≤ 17) × (0 < stepRefusal l t → 12 ≤ stepRefusal l t)
+step-number l t = numbered l t
+
+-- ---- the text
+
+module _ (f : Form) (s : List ℕ) where
+  -- A text that is read to the steps l: there are 1 to f's most, and none is refused for anything after those before it.
+  pub read-formed : (l : List Step) → readText f s ≡ steps l → Formed (f .most) l
+  unfolding readText
+  read-formed l e = formed-by f s l (badLength f (length s)) refl e
+
+  -- A refusal is number 10 at place 0, or one of 11 to 17 at the place of a line of the text.
+  pub read-refused : (n p : ℕ) → readText f s ≡ refused n p → ((n ≡ 10) × (p ≡ 0)) ⊎ ((11 ≤ n) × (n ≤ 17) × (p < length s / lineLength f))
+  unfolding readText
+  read-refused n p e = refused-by f s n p (badLength f (length s)) refl e
+
+-- A recipe that was read has at most 16 inputs.
+pub formed-inputs : (most : ℕ) (l : List Step) → Formed most l → inputsIn l ≤ 16
+formed-inputs most l g = rw take-length at (inputs-so-far most l g (length l) (omega arith))
+
+-- ---- the answer
+
+-- No refusal has the number 0.
+pub refusal-positive : (f : Form) (s : List ℕ) (n p : ℕ) → readText f s ≡ refused n p → 0 < n
+refusal-positive f s n p e = ⊎-elim (λ w. omega (arith, w .0)) (λ w. omega (arith, w .0)) (read-refused f s n p e)
+
+module _ (s : List ℕ) (r : Recipe) (g : Says (readText short s) r) where
+  -- Every answer has room for 128 steps, and counts no more.
+  pub answer-count : (r .count ≤ 128) × (length (r .steps) ≡ 128)
+  answer-count = says-count (readText short s) r (λ l e. read-formed short s l e .few) g
+
+  -- An answer with refusal 0 has the text's steps ..
+  pub answer-steps : r .refusal ≡ 0 → readText short s ≡ steps (take (r .count) (r .steps))
+  answer-steps e = says-which (readText short s) r (refusal-positive short s) g .0 e
+
+  -- .. and counts them right, in an array of 128; and they are formed.
+  pub answer-passed : r .refusal ≡ 0 → Passed (take (r .count) (r .steps)) r
+  answer-passed e = let h : Says (steps (take (r .count) (r .steps))) r = rw (answer-steps e) at g in h
+
+  pub answer-formed : r .refusal ≡ 0 → Formed 128 (take (r .count) (r .steps))
+  answer-formed e = read-formed short s (take (r .count) (r .steps)) (answer-steps e)
+
+  -- Any other answer has the text's refusal.
+  pub answer-refused : (r .refusal ≡ 0 → ⊥) → readText short s ≡ refused (r .refusal) (r .place)
+  answer-refused e = says-which (readText short s) r (refusal-positive short s) g .1 e

@@ -1,0 +1,131 @@
+-- The step table between its single opcodes: which row a range of opcodes has, and that the gaps have none. From opcode 10 on the table has
+-- three blocks, each a range and one opcode after it; a block is passed over, before or after it, or entered. Assumes nothing.
+use mathlib.Core.Path.{_≡_, refl, _∙_}
+use mathlib.Core.Bool.{Bool, true, false, _&&_, cond}
+use Prim.Native.Nat.{ℕ, _≤_, _<_}
+use native.Mathlib.Omega.{arith}
+use lib.Dec.{eqb, leb}
+use borrow.Author.Tests.{ne-eqb, le-leb, lt-leb, eqb-true, leb-true}
+use Rattle.recipe.specs.declared.Row.{Row}
+use Rattle.recipe.specs.declared.Row.the-variants.{Unknown, Input, Constant, Unary, Binary}
+use Rattle.recipe.specs.declared.Kind.the-variants.{Double, Whole}
+use Rattle.recipe.proofs.Steps.{never}
+use Rattle.recipe.specs.Table.{within, rowOf, answerKind}
+
+-- a row from low to high, and one at the opcode after them
+record Block : Type 0 where
+  low : ℕ
+  high : ℕ
+  next : ℕ
+  many : Row
+  one : Row
+
+abbrev tens : Block
+tens = record { low = 0x10; high = 0x17; next = 0x18; many = Unary Double Double; one = Unary Double Whole }
+
+abbrev twenties : Block
+twenties = record { low = 0x20; high = 0x22; next = 0x23; many = Binary Double Double Double; one = Binary Double Whole Double }
+
+abbrev thirties : Block
+thirties = record { low = 0x30; high = 0x31; next = 0x32; many = Binary Whole Whole Whole; one = Unary Whole Double }
+
+-- n's row of the block, and z where it has none
+abbrev look : Block → ℕ → Row → Row
+look b n z = cond (within (b .low) (b .high) n) (b .many) (cond (eqb n (b .next)) (b .one) z)
+
+module _ (b : Block) (n : ℕ) (z : Row) where
+  before : n < b .low → (n ≡ b .next → ⊥) → look b n z ≡ z
+  before l e = rw (lt-leb (b .low) n l, ne-eqb n (b .next) e)
+
+  inside : b .low ≤ n → n ≤ b .high → look b n z ≡ b .many
+  inside l h = rw (le-leb (b .low) n l, le-leb n (b .high) h)
+
+  after : b .low ≤ n → b .high < n → (n ≡ b .next → ⊥) → look b n z ≡ z
+  after l h e = rw (le-leb (b .low) n l, lt-leb n (b .high) h, ne-eqb n (b .next) e)
+
+-- ---- the rows of ranges and gaps
+
+-- after the inputs and constants the table is the three blocks
+abbrev from30 : ℕ → Row
+from30 n = look thirties n Unknown
+
+abbrev from20 : ℕ → Row
+from20 n = look twenties n (from30 n)
+
+blocks : (n : ℕ) → (n ≡ 1 → ⊥) → (n ≡ 2 → ⊥) → (n ≡ 3 → ⊥) → (n ≡ 4 → ⊥) → rowOf n ≡ look tens n (from20 n)
+unfolding rowOf
+blocks n not1 not2 not3 not4 = rw (ne-eqb n 1 not1, ne-eqb n 2 not2, ne-eqb n 3 not3, ne-eqb n 4 not4)
+
+pub before-10 : (n : ℕ) → n < 0x10 → (n ≡ 1 → ⊥) → (n ≡ 2 → ⊥) → (n ≡ 3 → ⊥) → (n ≡ 4 → ⊥) → rowOf n ≡ Unknown
+before-10 n h not1 not2 not3 not4 =
+    blocks n not1 not2 not3 not4
+    ∙ before tens n (from20 n) h (λ e. omega arith)
+    ∙ before twenties n (from30 n) (omega arith) (λ e. omega arith)
+    ∙ before thirties n Unknown (omega arith) (λ e. omega arith)
+
+module _ (n : ℕ) where
+  from-10-on : 0x10 ≤ n → rowOf n ≡ look tens n (from20 n)
+  from-10-on l = blocks n (λ e. omega arith) (λ e. omega arith) (λ e. omega arith) (λ e. omega arith)
+
+  pub from-10 : 0x10 ≤ n → n < 0x18 → rowOf n ≡ Unary Double Double
+  from-10 l h = from-10-on l ∙ inside tens n (from20 n) l (omega arith)
+
+  after-18 : 0x18 < n → rowOf n ≡ from20 n
+  after-18 l = from-10-on (omega arith) ∙ after tens n (from20 n) (omega arith) (omega arith) (λ e. omega arith)
+
+  pub before-20 : 0x18 < n → n < 0x20 → rowOf n ≡ Unknown
+  before-20 l h = after-18 l ∙ before twenties n (from30 n) h (λ e. omega arith) ∙ before thirties n Unknown (omega arith) (λ e. omega arith)
+
+  pub from-20 : 0x20 ≤ n → n < 0x23 → rowOf n ≡ Binary Double Double Double
+  from-20 l h = after-18 (omega arith) ∙ inside twenties n (from30 n) l (omega arith)
+
+  after-23 : 0x23 < n → rowOf n ≡ from30 n
+  after-23 l = after-18 (omega arith) ∙ after twenties n (from30 n) (omega arith) (omega arith) (λ e. omega arith)
+
+  pub before-30 : 0x23 < n → n < 0x30 → rowOf n ≡ Unknown
+  before-30 l h = after-23 l ∙ before thirties n Unknown h (λ e. omega arith)
+
+  pub from-30 : 0x30 ≤ n → n < 0x32 → rowOf n ≡ Binary Whole Whole Whole
+  from-30 l h = after-23 (omega arith) ∙ inside thirties n Unknown l (omega arith)
+
+  pub after-32 : 0x32 < n → rowOf n ≡ Unknown
+  after-32 l = after-23 (omega arith) ∙ after thirties n Unknown (omega arith) (omega arith) (λ e. omega arith)
+
+-- ---- the kind of a step's value
+
+double-or : (b : Bool) (x y : Row) → (b ≡ true → answerKind x ≡ Double) → answerKind y ≡ Double → answerKind (cond b x y) ≡ Double
+double-or true x y h k = h refl
+double-or false x y h k = k
+
+both : (x y : Bool) → (x && y) ≡ true → (x ≡ true) × (y ≡ true)
+both true y e = (refl, e)
+both false y e = never (cc)
+
+-- every opcode but five gives a double, and so does one that the table has not
+pub gives-double : (n : ℕ) → (n ≡ 2 → ⊥) → (n ≡ 4 → ⊥) → (n ≡ 0x18 → ⊥) → (n ≡ 0x30 → ⊥) → (n ≡ 0x31 → ⊥) → answerKind (rowOf n) ≡ Double
+unfolding rowOf
+gives-double n not2 not4 not18 not30 not31 =
+    let r32 : Row = cond (eqb n 0x32) (Unary Whole Double) Unknown in
+    let r30 : Row = cond (within 0x30 0x31 n) (Binary Whole Whole Whole) r32 in
+    let r23 : Row = cond (eqb n 0x23) (Binary Double Whole Double) r30 in
+    let r20 : Row = cond (within 0x20 0x22 n) (Binary Double Double Double) r23 in
+    let r18 : Row = cond (eqb n 0x18) (Unary Double Whole) r20 in
+    let r10 : Row = cond (within 0x10 0x17 n) (Unary Double Double) r18 in
+    let r4 : Row = cond (eqb n 0x04) (Constant Whole) r10 in
+    let r3 : Row = cond (eqb n 0x03) (Constant Double) r4 in
+    let r2 : Row = cond (eqb n 0x02) (Input Whole) r3 in
+    double-or (eqb n 0x01) (Input Double) r2 (λ e. refl)
+    (double-or (eqb n 0x02) (Input Whole) r3 (λ e. absurd (not2 (eqb-true n 0x02 e)))
+    (double-or (eqb n 0x03) (Constant Double) r4 (λ e. refl)
+    (double-or (eqb n 0x04) (Constant Whole) r10 (λ e. absurd (not4 (eqb-true n 0x04 e)))
+    (double-or (within 0x10 0x17 n) (Unary Double Double) r18 (λ e. refl)
+    (double-or (eqb n 0x18) (Unary Double Whole) r20 (λ e. absurd (not18 (eqb-true n 0x18 e)))
+    (double-or (within 0x20 0x22 n) (Binary Double Double Double) r23 (λ e. refl)
+    (double-or (eqb n 0x23) (Binary Double Whole Double) r30 (λ e. refl)
+    (double-or (within 0x30 0x31 n) (Binary Whole Whole Whole) r32 (λ e.
+    let w = both (leb 0x30 n) (leb n 0x31) e in
+    let l : 0x30 ≤ n = leb-true 0x30 n (w .0) in
+    let h : n ≤ 0x31 = leb-true n 0x31 (w .1) in
+    let z : n < 0x31 → ⊥ = λ k. not30 (omega arith) in
+    absurd (not31 (omega arith)))
+    (double-or (eqb n 0x32) (Unary Whole Double) Unknown (λ e. refl) refl)))))))))

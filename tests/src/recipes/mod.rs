@@ -1,0 +1,180 @@
+//! Calls of a run that the library is tried on: recipes of all lengths with frames for them, whole
+//! ones and damaged ones.
+//!
+//! `growing` makes valid recipes along a frame, `values` the constants, ranges and inputs in them,
+//! and `faults` damages them: one fault or two, each at the first, some or the last place.
+
+pub mod faults;
+pub mod growing;
+pub mod values;
+
+use crate::reference::recipe::{Kind, Operation};
+use std::fmt;
+
+/// The fields of a line.
+#[derive(Clone, Copy, Debug, Default, PartialEq, Eq)]
+pub struct Line {
+    pub opcode: u8,
+    pub a: u8,
+    pub b: u8,
+    pub p: u64,
+    pub q: u64,
+}
+
+impl Line {
+    pub fn constant(kind: Kind, p: u64) -> Line {
+        let opcode = match kind {
+            Kind::Double => 0x03,
+            Kind::Whole => 0x04,
+        };
+        Line {
+            opcode,
+            p,
+            ..Line::default()
+        }
+    }
+
+    pub fn input(kind: Kind, [p, q]: [u64; 2]) -> Line {
+        let opcode = match kind {
+            Kind::Double => 0x01,
+            Kind::Whole => 0x02,
+        };
+        Line {
+            opcode,
+            p,
+            q,
+            ..Line::default()
+        }
+    }
+
+    /// A step that works on earlier ones.
+    pub fn step(opcode: u8, a: usize, b: usize) -> Line {
+        Line {
+            opcode,
+            a: a as u8,
+            b: b as u8,
+            ..Line::default()
+        }
+    }
+
+    /// None where the opcode is damaged.
+    pub fn operation(&self) -> Option<&'static Operation> {
+        Operation::of_opcode(self.opcode)
+    }
+
+    pub fn is_input(&self) -> bool {
+        self.operation().is_some_and(Operation::is_input)
+    }
+
+    pub fn kind(&self) -> Option<Kind> {
+        self.operation().map(|operation| operation.kind)
+    }
+
+    fn write(&self, text: &mut Vec<u8>) {
+        for (digits, field) in [
+            (2, self.opcode as u64),
+            (2, self.a as u64),
+            (2, self.b as u64),
+            (16, self.p),
+            (16, self.q),
+        ] {
+            write_digits(text, digits, field);
+        }
+        text.push(b'\n');
+    }
+}
+
+fn write_digits(text: &mut Vec<u8>, digits: u32, field: u64) {
+    for place in (0..digits).rev() {
+        let digit = field >> (4 * place) & 15;
+        text.push(b"0123456789abcdef"[digit as usize]);
+    }
+}
+
+/// A recipe's lines and a word for each of its inputs.
+#[derive(Clone, Debug, Default)]
+pub struct Draft {
+    pub lines: Vec<Line>,
+    pub words: Vec<u64>,
+}
+
+impl Draft {
+    /// The steps that are inputs.
+    pub fn inputs(&self) -> Vec<usize> {
+        let is_input = |&place: &usize| self.lines[place].is_input();
+        (0..self.lines.len()).filter(is_input).collect()
+    }
+
+    /// The call that it is, with memory for just its steps.
+    pub fn call(&self) -> Call {
+        let mut text = Vec::with_capacity(39 * self.lines.len());
+        for line in &self.lines {
+            line.write(&mut text);
+        }
+        Call {
+            text,
+            frame: frame(&self.words),
+            lent: self.lines.len(),
+        }
+    }
+}
+
+/// The frame that holds these words.
+pub fn frame(words: &[u64]) -> Vec<u8> {
+    let mut frame = Vec::with_capacity(16 * words.len());
+    for &word in words {
+        write_digits(&mut frame, 16, word);
+    }
+    frame
+}
+
+/// What a run is called with.
+#[derive(Clone, Debug, PartialEq, Eq)]
+pub struct Call {
+    pub text: Vec<u8>,
+    pub frame: Vec<u8>,
+    /// Words of memory.
+    pub lent: usize,
+}
+
+impl fmt::Display for Call {
+    fn fmt(&self, f: &mut fmt::Formatter) -> fmt::Result {
+        writeln!(f, "text, {} bytes:", self.text.len())?;
+        writeln!(
+            f,
+            "{}",
+            self.text.escape_ascii().to_string().replace("\\n", "\n")
+        )?;
+        writeln!(
+            f,
+            "frame, {} bytes: {}",
+            self.frame.len(),
+            self.frame.escape_ascii()
+        )?;
+        write!(f, "{} words lent", self.lent)
+    }
+}
+
+#[cfg(test)]
+mod tests {
+    use super::*;
+
+    #[test]
+    fn lines_are_written_as_document_01_prints_them() {
+        let draft = Draft {
+            lines: vec![
+                Line::input(Kind::Double, [0xc004000000000000, 0x401d000000000000]),
+                Line::step(0x10, 0, 0),
+                Line::step(0x18, 1, 0),
+            ],
+            words: vec![0xbfe0000000000000],
+        };
+        let call = draft.call();
+        let text = "010000c004000000000000401d000000000000\n\
+                    10000000000000000000000000000000000000\n\
+                    18010000000000000000000000000000000000\n";
+        assert_eq!(call.text, text.as_bytes());
+        assert_eq!(call.frame, b"bfe0000000000000");
+        assert_eq!((call.lent, draft.inputs()), (3, vec![0]));
+    }
+}

@@ -1,0 +1,270 @@
+//! Constants, ranges and inputs.
+
+use crate::patterns::Random;
+use crate::reference::recipe::Kind;
+use crate::reference::{Class, BINARY64};
+
+/// Whole numbers at which a rule changes: the ends of 64 bits, 2^53, where doubles stop, the powers
+/// of ldexp.
+const WHOLES: [i64; 24] = [
+    0,
+    1,
+    -1,
+    2,
+    -2,
+    52,
+    -53,
+    1023,
+    1024,
+    -1074,
+    -1075,
+    2098,
+    -2099,
+    1 << 31,
+    -(1 << 31) - 1,
+    1 << 53,
+    (1 << 53) - 1,
+    (1 << 53) + 1,
+    -(1 << 53),
+    -(1 << 53) - 1,
+    i64::MAX,
+    i64::MAX - 1,
+    i64::MIN,
+    i64::MIN + 1,
+];
+
+/// Doubles at which one does: zeros, ones, halves, 2^53 and 2^63 with neighbours, the ends.
+const DOUBLES: [u64; 22] = [
+    0x0000000000000000,
+    0x8000000000000000,
+    0x3ff0000000000000,
+    0xbff0000000000000,
+    0x3fe0000000000000,
+    0xbfe0000000000000,
+    0x3fdfffffffffffff,
+    0x3fefffffffffffff,
+    0x4004000000000000,
+    0xc00c000000000000,
+    0x4340000000000000,
+    0xc340000000000001,
+    0x43dfffffffffffff,
+    0x43e0000000000000,
+    0xc3e0000000000000,
+    0xc3e0000000000001,
+    0x0000000000000001,
+    0x800fffffffffffff,
+    0x7fefffffffffffff,
+    0xffefffffffffffff,
+    0x7ff0000000000000,
+    0xfff0000000000000,
+];
+
+/// A number that orders the words of a kind as their values: a double's rank, or the whole number.
+fn rank(kind: Kind, word: u64) -> i64 {
+    match kind {
+        Kind::Double => BINARY64.rank(word),
+        Kind::Whole => word as i64,
+    }
+}
+
+/// The range of numbers as hosts have them.
+pub fn ordinary_range(kind: Kind) -> [u64; 2] {
+    match kind {
+        Kind::Double => [-1000.0f64, 1000.0].map(f64::to_bits),
+        Kind::Whole => [-50i64, 50].map(|n| n as u64),
+    }
+}
+
+impl Random {
+    /// A number of `ordinary_range`.
+    pub fn ordinary(&mut self, kind: Kind) -> u64 {
+        match kind {
+            Kind::Double => (self.within(-1_000_000..1_000_001) as f64 / 1000.0).to_bits(),
+            Kind::Whole => self.within(-50..51) as u64,
+        }
+    }
+
+    fn one_of<T: Copy>(&mut self, choices: &[T]) -> T {
+        choices[self.below(choices.len() as u64) as usize]
+    }
+
+    /// The word of this rank: of the two zeros, either.
+    fn of_rank(&mut self, kind: Kind, rank: i64) -> u64 {
+        match kind {
+            Kind::Whole => rank as u64,
+            Kind::Double if rank == 0 => self.word() & BINARY64.sign_bit(),
+            Kind::Double if rank < 0 => BINARY64.sign_bit() | rank.unsigned_abs(),
+            Kind::Double => rank as u64,
+        }
+    }
+
+    /// A value of the kind, no NaN.
+    pub fn value(&mut self, kind: Kind) -> u64 {
+        match kind {
+            Kind::Double => loop {
+                let word = match self.below(8) {
+                    0 | 1 => self.one_of(&DOUBLES),
+                    2 => self.uniform(&BINARY64),
+                    3 => self.special(&BINARY64),
+                    _ => self.pattern(&BINARY64),
+                };
+                if BINARY64.classify(word) != Class::Nan {
+                    return word;
+                }
+            },
+            Kind::Whole => match self.below(8) {
+                0 | 1 => self.one_of(&WHOLES) as u64,
+                2..=4 => self.within(-70..71) as u64,
+                5 => self.within(-2200..2201) as u64,
+                _ => (self.word() as i64 >> self.below(64)) as u64,
+            },
+        }
+    }
+
+    /// The ends of an input's range: equal, neighbours, anything to anything, to infinity.
+    pub fn range(&mut self, kind: Kind) -> [u64; 2] {
+        let [lowest, highest] = match kind {
+            Kind::Double => [BINARY64.negate(BINARY64.infinity()), BINARY64.infinity()],
+            Kind::Whole => [i64::MIN as u64, i64::MAX as u64],
+        };
+        let one = self.value(kind);
+        let another = match self.below(4) {
+            // The same number: of the zeros, either.
+            0 => self.of_rank(kind, rank(kind, one)),
+            1 => {
+                let beside = rank(kind, one).saturating_add(self.within(-3..4));
+                let beside = beside.clamp(rank(kind, lowest), rank(kind, highest));
+                self.of_rank(kind, beside)
+            }
+            _ => self.value(kind),
+        };
+        match self.below(8) {
+            0 => [lowest, highest],
+            1 => [lowest, one],
+            2 => [one, highest],
+            _ if rank(kind, one) <= rank(kind, another) => [one, another],
+            _ => [another, one],
+        }
+    }
+
+    /// A value in a range: an end in half of the cases.
+    pub fn inside(&mut self, kind: Kind, [p, q]: [u64; 2]) -> u64 {
+        let [low, high] = [p, q].map(|end| rank(kind, end));
+        let chosen = match self.below(4) {
+            0 => low,
+            1 => high,
+            2 => self.word() as i64,
+            _ => rank(kind, self.value(kind)),
+        };
+        if chosen == low && self.below(2) == 0 {
+            return p;
+        }
+        let chosen = if chosen < low || chosen > high {
+            let width = high.abs_diff(low);
+            let beyond = self.below(width.saturating_add(1));
+            low.wrapping_add_unsigned(beyond)
+        } else {
+            chosen
+        };
+        self.of_rank(kind, chosen)
+    }
+
+    /// A value outside a range, just outside in half of the cases, or a NaN; none where every value
+    /// lies inside.
+    pub fn outside(&mut self, kind: Kind, [p, q]: [u64; 2]) -> Option<u64> {
+        let [low, high] = [p, q].map(|end| rank(kind, end));
+        let (lowest, highest) = match kind {
+            Kind::Double => (-(BINARY64.infinity() as i64), BINARY64.infinity() as i64),
+            Kind::Whole => (i64::MIN, i64::MAX),
+        };
+        let mut choices = Vec::new();
+        if low > lowest {
+            choices.extend([low - 1, low - 1, lowest]);
+            choices.push(lowest.wrapping_add_unsigned(self.below(low.abs_diff(lowest))));
+        }
+        if high < highest {
+            choices.extend([high + 1, high + 1, highest]);
+            choices.push(highest.wrapping_sub_unsigned(self.below(high.abs_diff(highest))));
+        }
+        if kind == Kind::Double && (choices.is_empty() || self.below(4) == 0) {
+            return Some(self.nan());
+        }
+        if choices.is_empty() {
+            return None;
+        }
+        let chosen = self.one_of(&choices);
+        Some(self.of_rank(kind, chosen))
+    }
+
+    /// A NaN of either sign, quiet or signalling.
+    pub fn nan(&mut self) -> u64 {
+        let payload = match self.below(4) {
+            0 => 1,
+            1 => 1 << 51,
+            _ => 1 + self.below((1 << 52) - 1),
+        };
+        (self.word() & BINARY64.sign_bit()) | BINARY64.infinity() | payload
+    }
+
+    /// A constant that makes steps refuse: fmod (20), the steps with whole answers and ldexp (21),
+    /// or the turn to a double (22).
+    pub fn troublesome(&mut self, refusal: u64) -> (Kind, u64) {
+        let infinity = BINARY64.infinity() | (self.word() & BINARY64.sign_bit());
+        let zero = self.word() & BINARY64.sign_bit();
+        let near = |random: &mut Random, n: i64| n.saturating_add(random.within(-2..3)) as u64;
+        match refusal {
+            20 => (Kind::Double, self.one_of(&[zero, infinity])),
+            21 => match self.below(4) {
+                0 => {
+                    let beyond = self.one_of(&[0x43e0000000000000, 0xc3e0000000000001, infinity]);
+                    (Kind::Double, beyond)
+                }
+                1 => (Kind::Whole, self.within(1..2100) as u64),
+                2 => (Kind::Whole, near(self, i64::MIN)),
+                _ => (Kind::Whole, near(self, i64::MAX)),
+            },
+            _ => {
+                let beyond = (1 << 53) + 1 + (self.below(4) * self.below(1 << 60)) as i64;
+                let signed = if self.below(2) == 0 { beyond } else { -beyond };
+                (Kind::Whole, signed as u64)
+            }
+        }
+    }
+}
+
+#[cfg(test)]
+mod tests {
+    use super::*;
+    use crate::reference::recipe::Way;
+    use std::cmp::Ordering::{Greater, Less};
+
+    fn lies(kind: Kind, [p, q]: [u64; 2], word: u64) -> bool {
+        !kind.is_nan(word)
+            && kind.compare(Way::Exact, word, p) != Less
+            && kind.compare(Way::Exact, word, q) != Greater
+    }
+
+    #[test]
+    fn inside_and_outside_are_what_they_say() {
+        let mut random = Random::new(11);
+        for kind in [Kind::Double, Kind::Whole] {
+            let (mut ends, mut beside, mut nans) = (0, 0, 0);
+            for _ in 0..20_000 {
+                let range = random.range(kind);
+                assert!(!range.iter().any(|&end| kind.is_nan(end)));
+                assert!(kind.compare(Way::Exact, range[0], range[1]) != Greater);
+                let word = random.inside(kind, range);
+                assert!(lies(kind, range, word), "{word:x} in {range:x?}");
+                ends += range.contains(&word) as u64;
+                if let Some(word) = random.outside(kind, range) {
+                    assert!(!lies(kind, range, word), "{word:x} outside {range:x?}");
+                    nans += kind.is_nan(word) as u64;
+                    let ranks = range.map(|end| rank(kind, end).abs_diff(rank(kind, word)));
+                    beside += (!kind.is_nan(word) && ranks.contains(&1)) as u64;
+                }
+            }
+            assert!(ends > 2000 && beside > 2000, "{ends} {beside}");
+            assert!(kind == Kind::Whole || nans > 2000, "{nans}");
+        }
+    }
+}

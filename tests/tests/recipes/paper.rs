@@ -1,0 +1,169 @@
+//! What document 01 prints.
+
+use crate::check;
+use estrenwind_tests::library::RunAnswer;
+use estrenwind_tests::recipes::Call;
+use estrenwind_tests::reference::recipe::Way;
+
+const EXAMPLE: &str = "\
+010000c004000000000000401d000000000000
+10000000000000000000000000000000000000
+18010000000000000000000000000000000000
+";
+
+fn call(text: &str, frame: &str) -> Call {
+    Call {
+        text: text.into(),
+        frame: frame.into(),
+        lent: text.len() / 39,
+    }
+}
+
+fn completed(kind: u64, word: u64) -> RunAnswer {
+    RunAnswer {
+        refusal: 0,
+        place: 0,
+        kind,
+        word,
+    }
+}
+
+fn refused(refusal: u64, place: u64) -> RunAnswer {
+    RunAnswer {
+        refusal,
+        place,
+        kind: 0,
+        word: 0,
+    }
+}
+
+#[test]
+fn the_example_runs_as_printed() {
+    for (frame, answer) in [
+        ("bfe0000000000000", completed(2, 0xffffffffffffffff)),
+        ("401e000000000000", refused(32, 0)),
+        ("c004000000000000", completed(2, -3i64 as u64)), // the low end
+        ("401d000000000000", completed(2, 7)),            // the high end
+        ("c004000000000001", refused(32, 0)),             // just below
+        ("401d000000000001", refused(32, 0)),             // just above
+        ("8000000000000000", completed(2, 0)),
+        ("7ff8000000000000", refused(32, 0)),
+        ("", refused(30, 0)),
+        ("bfe000000000000", refused(30, 0)),
+        ("bfe00000000000000", refused(30, 0)),
+        ("BFE0000000000000", refused(31, 0)),
+        ("bfe0000000000000\n", refused(30, 0)),
+    ] {
+        let outcome = check(Way::Exact, &call(EXAMPLE, frame));
+        assert_eq!(outcome.answer, answer, "{frame}");
+    }
+    let outcome = check(Way::Exact, &call(EXAMPLE, "bfe0000000000000"));
+    let words = [0xbfe0000000000000, 0xbff0000000000000, 0xffffffffffffffff];
+    assert_eq!(outcome.memory[..3], words);
+}
+
+/// Each row breaks one rule of "Turning text down" and keeps to all before it, most of them also
+/// break a later one. The answers are read off document 01, not off the reference.
+#[test]
+#[rustfmt::skip]
+fn what_is_turned_down_and_with_which_number() {
+    const FULL: &str = "010000fff00000000000007ff0000000000000\n"; // any double
+    const WHOLE: &str = "02000080000000000000007fffffffffffffff\n"; // any whole number
+    const NEXT: &str = "10000000000000000000000000000000000000\n"; // floor of step 0
+    let full16 = FULL.repeat(16);
+    let frame16 = "0".repeat(256);
+    for (text, frame, answer) in [
+        ("", "", refused(10, 0)),
+        ("\n", "", refused(10, 0)),
+        (&FULL[..38], "", refused(10, 0)),
+        (&format!("{FULL}\n"), "", refused(10, 0)),
+        (&NEXT.repeat(129), "", refused(10, 0)),
+        (&NEXT.repeat(128), "", refused(14, 0)),                                              // floor of itself
+        (&format!("{FULL}{}", NEXT.repeat(127)), "bfe0000000000000", completed(1, 0xbff0000000000000)),
+        ("0A0000fff00000000000007ff0000000000000\n", "", refused(11, 0)),                      // 11 before 12
+        ("010000fff00000000000007ff0000000000000 ", "", refused(11, 0)),
+        ("010000fff00000000000007ff000000000000\n\n", "", refused(11, 0)),
+        ("00000000000000000000000000000000000000\n", "", refused(12, 0)),
+        ("05ff0000000000000000000000000000000000\n", "", refused(12, 0)),                      // 12 before 13, 14
+        ("19000000000000000000000000000000000000\n", "", refused(12, 0)),
+        ("24000000000000000000000000000000000000\n", "", refused(12, 0)),
+        ("33000000000000000000000000000000000000\n", "", refused(12, 0)),
+        ("10ff0000000000000000010000000000000000\n", "", refused(13, 0)),                      // 13 before 14
+        ("10000100000000000000000000000000000000\n", "", refused(13, 0)),
+        ("0101007ff80000000000000000000000000000\n", "", refused(13, 0)),                      // 13 before 16
+        ("0300003ff00000000000003ff0000000000000\n", "", refused(13, 0)),
+        (&format!("{WHOLE}{FULL}200002{:032}\n", 0), "", refused(14, 2)),                     // A whole, B itself: 14 before 15
+        (&format!("{WHOLE}{FULL}200200{:032}\n", 0), "", refused(14, 2)),
+        (&format!("{WHOLE}{FULL}2001ff{:032}\n", 0), "", refused(14, 2)),
+        (&format!("{WHOLE}{FULL}200100{:032}\n", 0), "", refused(15, 2)),
+        (&format!("{WHOLE}{FULL}230001{:032}\n", 0), "", refused(15, 2)),                     // ldexp with A and B exchanged
+        (&format!("{WHOLE}{FULL}230100{:032}\n", 0), &frame16[..32], completed(1, 0)),
+        (&format!("{WHOLE}{NEXT}"), "", refused(15, 1)),
+        (&format!("{FULL}3200{:034}\n", 0), "", refused(15, 1)),
+        ("0100000000000000000000bff0000000000000\n", "", refused(16, 0)),                      // 0 to -1
+        ("010000bff0000000000000c000000000000000\n", "", refused(16, 0)),                      // -1 to -2
+        ("010000c000000000000000bff0000000000000\n", "bff8000000000000", completed(1, 0xbff8000000000000)), // -2 to -1
+        ("01000000000000000000008000000000000000\n", "8000000000000000", completed(1, 1 << 63)), // +0 to -0, equal
+        ("01000080000000000000000000000000000000\n", "0000000000000000", completed(1, 0)),
+        ("01000000000000000000008000000000000000\n", "0000000000000001", refused(32, 0)),
+        ("010000fff00000000000007ff0000000000001\n", "", refused(16, 0)),
+        ("010000fff80000000000007ff0000000000000\n", "", refused(16, 0)),
+        ("0300007ff00000000000010000000000000000\n", "", refused(16, 0)),
+        ("0400007ff00000000000010000000000000000\n", "", completed(2, 0x7ff0000000000001)),
+        ("0200000000000000000000ffffffffffffffff\n", "", refused(16, 0)),                      // 0 to -1
+        ("020000ffffffffffffffff0000000000000000\n", "ffffffffffffffff", completed(2, u64::MAX)), // -1 to 0
+        ("020000ffffffffffffffff0000000000000000\n", "0000000000000001", refused(32, 0)),
+        ("020000ffffffffffffffff0000000000000000\n", "fffffffffffffffe", refused(32, 0)),
+        ("0200007ff800000000000080000000000000ff\n", "", refused(16, 0)),
+        (&full16, &frame16, completed(1, 0)),
+        (&format!("{full16}{FULL}"), &frame16, refused(17, 16)),
+        (&format!("{full16}0100003ff00000000000000000000000000000\n"), &frame16, refused(16, 16)), // 16 before 17
+        (&format!("{full16}{FULL}zz{:036}\n", 0), &frame16, refused(17, 16)),                 // an earlier line before 11
+        (&format!("{full16}{NEXT}{WHOLE}"), &frame16, refused(17, 17)),
+        (FULL, "", refused(30, 0)),
+        (NEXT, "z", refused(14, 0)),
+        (FULL, "gggggggggggggggg", refused(31, 0)),
+        (FULL, "ggggggggggggggg", refused(30, 0)),                                            // 30 before 31
+        (&format!("{FULL}{FULL}"), "7ff80000000000007ff000000000000g", refused(31, 0)),       // 31 before 32
+        (&format!("{FULL}{WHOLE}{NEXT}{FULL}"), "000000000000000000000000000000007ff8000000000000", refused(32, 3)), // the input's step
+        (&format!("{FULL}220000{:032}\n{FULL}", 0), "00000000000000007ff8000000000000", refused(32, 2)), // 32 before 20
+        (&format!("{FULL}220000{:032}\n", 0), "0000000000000000", refused(20, 1)),            // fmod(0, 0)
+        (&format!("{FULL}220000{:032}\n", 0), "7ff0000000000000", refused(20, 1)),            // fmod(inf, inf)
+        (&format!("{FULL}220000{:032}\n", 0), "bff0000000000000", completed(1, 1 << 63)),     // fmod(-1, -1) = -0
+        (&format!("{FULL}1800{:034}\n220000{:032}\n", 0, 0), "7ff0000000000000", refused(21, 1)), // 21 at an earlier step
+        (&format!("{FULL}1800{:034}\n", 0), "43dfffffffffffff", completed(2, 0x7ffffffffffffc00)),
+        (&format!("{FULL}1800{:034}\n", 0), "43e0000000000000", refused(21, 1)),
+        (&format!("{FULL}1800{:034}\n", 0), "c3e0000000000000", completed(2, 1 << 63)),
+        (&format!("{WHOLE}300000{:032}\n", 0), "4000000000000000", refused(21, 1)),           // 2^62 + 2^62
+        (&format!("{WHOLE}300000{:032}\n", 0), "c000000000000000", completed(2, 1 << 63)),    // -2^62 - 2^62
+        (&format!("{WHOLE}{WHOLE}310001{:032}\n", 0), "00000000000000008000000000000000", refused(21, 2)), // 0 - -2^63
+        (&format!("{WHOLE}{WHOLE}310001{:032}\n", 0), "ffffffffffffffff8000000000000000", completed(2, i64::MAX as u64)),
+        (&format!("{FULL}{WHOLE}230001{:032}\n", 0), "3ff00000000000000000000000000400", refused(21, 2)), // ldexp(1, 1024)
+        (&format!("{FULL}{WHOLE}230001{:032}\n", 0), "7ff00000000000000000000000000400", completed(1, 0x7ff0000000000000)), // infinite a
+        (&format!("{FULL}{WHOLE}230001{:032}\n", 0), "3ff0000000000000fffffffffffffbcd", completed(1, 0)), // ldexp(1, -1075)
+        (&format!("{WHOLE}3200{:034}\n", 0), "0020000000000000", completed(1, 0x4340000000000000)), // 2^53
+        (&format!("{WHOLE}3200{:034}\n", 0), "0020000000000001", refused(22, 1)),
+        (&format!("{WHOLE}3200{:034}\n", 0), "ffe0000000000000", completed(1, 0xc340000000000000)), // -2^53
+        (&format!("{WHOLE}3200{:034}\n", 0), "ffdfffffffffffff", refused(22, 1)),
+        (&format!("{WHOLE}3200{:034}\n", 0), "8000000000000000", refused(22, 1)),
+    ] {
+        let outcome = check(Way::Exact, &call(text, frame));
+        assert_eq!(outcome.answer, answer, "{text}{frame}");
+    }
+}
+
+/// "Order: 10; then line by line 11 to 17; then 40; for a run 30, 31 .."
+#[test]
+fn too_short_a_memory_comes_after_the_text_and_before_the_frame() {
+    let short = |text: &str, frame: &str| {
+        let mut call = call(text, frame);
+        call.lent = 0;
+        check(Way::Exact, &call).answer
+    };
+    assert_eq!(short(EXAMPLE, "bfe0000000000000"), refused(40, 0));
+    assert_eq!(short(EXAMPLE, ""), refused(40, 0));
+    assert_eq!(short(EXAMPLE, "Z"), refused(40, 0));
+    assert_eq!(short(EXAMPLE, "7ff8000000000000"), refused(40, 0));
+    assert_eq!(short(&EXAMPLE[1..], ""), refused(10, 0));
+    assert_eq!(short(&EXAMPLE.replace("1801", "1803"), ""), refused(14, 2));
+}
