@@ -64,7 +64,7 @@ test-exhaustive: build  ## compare them on every f32 there is, 2^32 patterns a f
 	@$(call need,cargo,build the Rust tests)
 	cargo run $(CARGO_TESTS) --bin exhaustive
 
-bench: build  ## time single calls beside glibc, musl and newlib, check the targets, and time runs beside a plain interpreter
+bench: build  ## time single calls beside glibc, musl and newlib, check the targets, and time runs and sheets beside a plain interpreter
 	@$(call need,$(CC),compile the benchmark)
 	CC=$(CC) sh bench/references.sh build/bench
 	$(CC) -std=gnu99 -O2 -Wall -Wextra -falign-functions=64 -falign-loops=64 -Ibuild -Ibuild/bench bench/bench.c \

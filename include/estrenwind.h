@@ -349,6 +349,21 @@ enum {
     EW_WHOLE = 2
 };
 
+/* What a sheet answers: a refusal's number and place, or the number of steps that it shows. What is not used is 0. */
+typedef struct { uint64_t refusal, place, steps; } ew_sheet_answer;
+
+/*
+ * ew_sheet works out, from the ranges that a recipe declares for its inputs, a range for every step, and writes a line a step to sheet, 37
+ * bytes each: step 2 lower-case hexadecimal digits, kind 2, low 16, high 16, a line feed. Memory past the last line stays as it was.
+ *
+ * A passed sheet (refusal 0) is a promise, and proved: of any frame that is refused nothing of 30, 31 and 32, ew_run, given room, completes,
+ * and every step's value has the kind and lies in the range that its line shows, both ends included.
+ *
+ * Refuses 10 to 17 for the text, 40 where sheet has fewer than 37 bytes a step, and 20 to 22 for a step some of whose values ew_run might
+ * refuse: the first in that order, and no byte is written.
+ */
+ew_sheet_answer ew_sheet(const uint8_t *text, size_t text_len, uint8_t *sheet, size_t sheet_len);
+
 /* What a run answers: a refusal's number and place, or the last step's kind and the 64 bits of its value. What is not used is 0. */
 typedef struct { uint64_t refusal, place, kind, word; } ew_run_answer;
 

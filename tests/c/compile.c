@@ -7,6 +7,7 @@
  */
 #include <fenv.h>
 #include <stdio.h>
+#include <string.h>
 
 #include "estrenwind.h"
 
@@ -429,6 +430,32 @@ static void check_run(void)
     check("run refusal", 3, r.refusal, EW_REFUSED_LENGTH);
 }
 
+/* Its sheet, as document 01 prints it. */
+static const char lines[] = "0001c004000000000000401d000000000000\n"
+                            "0101c008000000000000401c000000000000\n"
+                            "0202fffffffffffffffd0000000000000007\n";
+
+static void check_sheet(void)
+{
+    const uint8_t *text = (const uint8_t *)recipe;
+    const size_t length = sizeof recipe - 1, room = sizeof lines - 1;
+    uint8_t sheet[sizeof lines + 1];
+    ew_sheet_answer s;
+    memset(sheet, '#', sizeof sheet);
+    s = ew_sheet(text, length, sheet, room - 1);
+    check("sheet refusal", 0, s.refusal, EW_REFUSED_ROOM);
+    check("sheet steps", 0, s.steps, 0);
+    check("sheet writes nothing", 0, sheet[0], '#');
+    s = ew_sheet(text, length, sheet, sizeof sheet);
+    check("sheet refusal", 1, s.refusal, EW_ACCEPTED);
+    check("sheet place", 1, s.place, 0);
+    check("sheet steps", 1, s.steps, 3);
+    check("sheet lines", 1, memcmp(sheet, lines, room) == 0, 1);
+    check("sheet leaves the rest", 1, sheet[room], '#');
+    s = ew_sheet(NULL, 0, NULL, 0);
+    check("sheet refusal", 2, s.refusal, EW_REFUSED_LENGTH);
+}
+
 int main(void)
 {
     static const int modes[] = {FE_TONEAREST, FE_DOWNWARD, FE_UPWARD, FE_TOWARDZERO};
@@ -441,6 +468,7 @@ int main(void)
         fesetround(modes[i]);
         check_all();
         check_run();
+        check_sheet();
     }
     fesetround(FE_TONEAREST);
     if (failures != 0) {

@@ -1,6 +1,6 @@
 /*
- * Measures the deepest stack of ew_run: the call runs on a stack of its own that was filled with a pattern, on a recipe of 128 steps with
- * sixteen inputs, and what no longer holds the pattern was used. Fails above 64 KiB.
+ * Measures the deepest stack of ew_run and ew_sheet: each call runs on a stack of its own that was filled with a pattern, on a recipe of 128
+ * steps with sixteen inputs, and what no longer holds the pattern was used. Fails above 64 KiB.
  */
 #include <pthread.h>
 #include <stdio.h>
@@ -9,11 +9,13 @@
 
 #include "estrenwind.h"
 
-enum { STACK = 1 << 20, STEPS = 128, INPUTS = 16, LINE = 39, LIMIT = 65536, PATTERN = 0xa5 };
+enum { STACK = 1 << 20, STEPS = 128, INPUTS = 16, LINE = 39, SHEET_LINE = 37, LIMIT = 65536, PATTERN = 0xa5 };
 
 static char text[STEPS * LINE + 1], frame[INPUTS * 16 + 1];
 static uint64_t words[STEPS];
+static uint8_t sheet[STEPS * SHEET_LINE];
 static ew_run_answer answer;
+static ew_sheet_answer shown;
 
 /* Inputs first, then every opcode of one or two doubles in turn, each on the steps before it. */
 static void write_recipe(void)
@@ -33,6 +35,12 @@ static void write_recipe(void)
 static void *run(void *unused)
 {
     answer = ew_run((const uint8_t *)text, STEPS * LINE, (const uint8_t *)frame, INPUTS * 16, words, STEPS);
+    return unused;
+}
+
+static void *show(void *unused)
+{
+    shown = ew_sheet((const uint8_t *)text, STEPS * LINE, sheet, sizeof sheet);
     return unused;
 }
 
@@ -62,13 +70,15 @@ static long used_by(void *(*body)(void *))
 
 int main(void)
 {
-    long bytes;
+    long idle, bytes, sheet_bytes;
     write_recipe();
-    bytes = used_by(run) - used_by(nothing);
-    if (answer.refusal != EW_ACCEPTED) {
-        printf("the recipe was refused: %llu at %llu\n", (unsigned long long)answer.refusal, (unsigned long long)answer.place);
+    idle = used_by(nothing);
+    bytes = used_by(run) - idle;
+    sheet_bytes = used_by(show) - idle;
+    if (answer.refusal != EW_ACCEPTED || shown.refusal != EW_ACCEPTED) {
+        printf("the recipe was refused: %llu by the run, %llu by the sheet\n", (unsigned long long)answer.refusal, (unsigned long long)shown.refusal);
         return 1;
     }
-    printf("ew_run used %ld bytes of stack on 128 steps\n", bytes);
-    return bytes > LIMIT;
+    printf("on 128 steps ew_run used %ld bytes of stack and ew_sheet %ld\n", bytes, sheet_bytes);
+    return bytes > LIMIT || sheet_bytes > LIMIT;
 }

@@ -89,6 +89,18 @@ cut most x n w =
     (λ p. let a = p .0 in let b = p .1 in record { fits = omega arith; same = λ h. omega arith })
     w
 
+-- the steps that the reader's answer holds, all of them
+module _ (recipe : Recipe) (t : List ℕ) (g : Says (readText short t) recipe) (z : recipe .refusal ≡ 0) (n : ℕ) (cn : Cut 128 (recipe .count) n) where
+  pub counted : n ≡ recipe .count
+  counted =
+      let p = answer-passed t recipe g z in
+      let f = answer-formed t recipe g z .few in
+      let e = p .counted in
+      cn .same (omega arith)
+
+  pub enough : n ≤ length (recipe .steps)
+  enough = let p = answer-passed t recipe g z in let e = p .room in let f = cn .fits in omega arith
+
 -- the run's fold that the call comes down to, on a list of the words
 pub record Reached (run : Run) (l : List Step) (inputs : Inputs) : Type 0 where
   pub list : List ℕ
@@ -102,18 +114,14 @@ module _ (recipe : Recipe) (t : List ℕ) (g : Says (readText short t) recipe) (
 
   module _ (z : recipe .refusal ≡ 0) (n : ℕ) (cn : Cut 128 (recipe .count) n) where
     all : n ≡ recipe .count
-    all =
-        let p = answer-passed t recipe g z in
-        let f = answer-formed t recipe g z .few in
-        let e = p .counted in
-        cn .same (omega arith)
+    all = counted recipe t g z n cn
 
-    pub enough : n ≤ length (recipe .steps)
-    enough = let p = answer-passed t recipe g z in let e = p .room in let f = cn .fits in omega arith
+    held-all : n ≤ length (recipe .steps)
+    held-all = enough recipe t g z n cn
 
     whole : runOf t s room ≡ cond (ltb room n) (refused 40 0) (onFrame (readFrame (take n (recipe .steps)) s) (take n (recipe .steps)))
     whole =
-        let e : length (take n (recipe .steps)) ≡ n = length-take-le n (recipe .steps) enough in
+        let e : length (take n (recipe .steps)) ≡ n = length-take-le n (recipe .steps) held-all in
         on-steps t s room (take n (recipe .steps)) (answer-steps t recipe g z ∙ rw all)
         ∙ rw e
 
@@ -127,17 +135,17 @@ module _ (recipe : Recipe) (t : List ℕ) (g : Says (readText short t) recipe) (
 
       -- refusal 30
       pub run-length : (length s ≡ m * 16 → ⊥) → runOf t s room ≡ refused 30 0
-      run-length h = framed ∙ ranges-refused (readFrame (take n (recipe .steps)) s) (take n (recipe .steps)) 30 0 (frame-length (take n (recipe .steps)) s m (em enough) h)
+      run-length h = framed ∙ ranges-refused (readFrame (take n (recipe .steps)) s) (take n (recipe .steps)) 30 0 (frame-length (take n (recipe .steps)) s m (em held-all) h)
 
       module _ (h : length s ≡ m * 16) (k : ℕ) (ck : Cut 16 m k) (inputs : Inputs) (i : Read (wordsFrom s k 0 []) inputs) where
         every : k ≡ m
         every =
             let f = formed-inputs 128 (take (recipe .count) (recipe .steps)) (answer-formed t recipe g z) in
-            let e : m ≡ inputsIn (take (recipe .count) (recipe .steps)) = em enough ∙ rw all in
+            let e : m ≡ inputsIn (take (recipe .count) (recipe .steps)) = em held-all ∙ rw all in
             ck .same (omega arith)
 
         worded : runOf t s room ≡ onFrame (onWords (wordsFrom s k 0 []) (λ ws. ranged (take n (recipe .steps)) 0 0 ws)) (take n (recipe .steps))
-        worded = framed ∙ rw (frame-words (take n (recipe .steps)) s m (em enough) h, every)
+        worded = framed ∙ rw (frame-words (take n (recipe .steps)) s m (em held-all) h, every)
 
         -- refusal 31
         pub run-malformed : inputs .malformed ≡ true → runOf t s room ≡ refused 31 0
@@ -152,7 +160,7 @@ module _ (recipe : Recipe) (t : List ℕ) (g : Says (readText short t) recipe) (
           checked =
               worded
               ∙ words-good (wordsFrom s k 0 []) (take n (recipe .steps)) (held .list) (held .is)
-              ∙ rw (ew enough (held .list) (held .same))
+              ∙ rw (ew held-all (held .list) (held .same))
 
           -- refusal 32
           pub run-outside : (p : StepNumber) → w ≡ Outside p → runOf t s room ≡ refused 32 (p .0)

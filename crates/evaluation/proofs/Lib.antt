@@ -1,14 +1,22 @@
 -- Laws that the proofs of `evaluation` share.
 pub mod Floats
 pub mod Rules
+pub mod Ends
 pub mod Wholes
 pub mod Outcomes
 pub mod Sums
 pub mod Lists
+pub mod Filled
 pub mod Declared
 pub mod Reading
 pub mod Running
+pub mod Showing
 pub mod Calls
 pub mod Worked
 pub mod Numbers
 pub mod Laws
+pub mod Sound
+pub mod Covering
+pub mod SheetCalls
+pub mod Promises
+pub mod Examples

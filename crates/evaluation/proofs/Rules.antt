@@ -1,9 +1,11 @@
--- The step rules by an opcode: at one that the table has, and at any other. Assumes nothing.
+-- The step rules and the range rules by an opcode: at one that the table has, and at any other. Assumes nothing.
 use mathlib.Core.Path.{_≡_, sym, ap}
 use Prim.Native.Nat.{ℕ}
 use lib.IntN.{ℤ, pos}
 use borrow.Author.Tests.{ne-eqb}
 use Rattle.recipe.specs.declared.Step.{Step}
+use Rattle.evaluation.specs.Range.{Range, wholes, ranged, rangeRule, stepRange}
+use Rattle.evaluation.specs.Carried.{carried}
 use Rattle.evaluation.specs.Value.{Datum, asDouble, asWhole, whole, done, ruleOf, stepValue}
 
 -- in an arm, the opcode is the arm's number, and the operands are what the code took from a and b
@@ -42,3 +44,40 @@ unlisted k p w x y m n h =
       ne-eqb k 49 (h .0 .1),
       ne-eqb k 50 (h .1),
     )
+
+-- ---- ranges
+
+-- in an arm, the opcode is the arm's number
+pub bounded : (t : Step) (a b : Range) {k : ℕ} → t .opcode ≡ k → carried (rangeRule k (t .p) (t .q) a b) ≡ carried (stepRange t a b)
+unfolding stepRange
+bounded t a b e = rw e
+
+pub range-unlisted : (k p q : ℕ) (a b : Range) → Unlisted k → ranged (wholes (pos 0) (pos 0)) ≡ rangeRule k p q a b
+unfolding rangeRule
+range-unlisted k p q a b h =
+    simp (
+      ne-eqb k 1 (h .0 .0 .0 .0 .0 .0 .0 .0 .0 .0 .0 .0 .0 .0 .0 .0 .0 .0 .0 .1),
+      ne-eqb k 2 (h .0 .0 .0 .0 .0 .0 .0 .0 .0 .0 .0 .0 .0 .0 .0 .0 .0 .0 .1),
+      ne-eqb k 3 (h .0 .0 .0 .0 .0 .0 .0 .0 .0 .0 .0 .0 .0 .0 .0 .0 .0 .1),
+      ne-eqb k 4 (h .0 .0 .0 .0 .0 .0 .0 .0 .0 .0 .0 .0 .0 .0 .0 .0 .1),
+      ne-eqb k 16 (h .0 .0 .0 .0 .0 .0 .0 .0 .0 .0 .0 .0 .0 .0 .0 .1),
+      ne-eqb k 17 (h .0 .0 .0 .0 .0 .0 .0 .0 .0 .0 .0 .0 .0 .0 .1),
+      ne-eqb k 18 (h .0 .0 .0 .0 .0 .0 .0 .0 .0 .0 .0 .0 .0 .1),
+      ne-eqb k 19 (h .0 .0 .0 .0 .0 .0 .0 .0 .0 .0 .0 .0 .1),
+      ne-eqb k 20 (h .0 .0 .0 .0 .0 .0 .0 .0 .0 .0 .0 .1),
+      ne-eqb k 21 (h .0 .0 .0 .0 .0 .0 .0 .0 .0 .0 .1),
+      ne-eqb k 22 (h .0 .0 .0 .0 .0 .0 .0 .0 .0 .1),
+      ne-eqb k 23 (h .0 .0 .0 .0 .0 .0 .0 .0 .1),
+      ne-eqb k 24 (h .0 .0 .0 .0 .0 .0 .0 .1),
+      ne-eqb k 32 (h .0 .0 .0 .0 .0 .0 .1),
+      ne-eqb k 33 (h .0 .0 .0 .0 .0 .1),
+      ne-eqb k 34 (h .0 .0 .0 .0 .1),
+      ne-eqb k 35 (h .0 .0 .0 .1),
+      ne-eqb k 48 (h .0 .0 .1),
+      ne-eqb k 49 (h .0 .1),
+      ne-eqb k 50 (h .1),
+    )
+
+pub unbounded : (t : Step) (a b : Range) → Unlisted (t .opcode) → ranged (wholes (pos 0) (pos 0)) ≡ stepRange t a b
+unfolding stepRange
+unbounded t a b h = range-unlisted (t .opcode) (t .p) (t .q) a b h

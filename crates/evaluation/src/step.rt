@@ -71,20 +71,20 @@ fn difference_fits(m: i64, n: i64) -> bool
 
 // ---- what a step comes to
 
-fn real_of(x: u64) -> Outcome
+pub fn real_of(x: u64) -> Outcome
     ensures { λ r. ⌜ (outcomeOf r ≡ done (real x)) × RealOutcome r ⌝ }
 {
     Outcome::Done(Value::real(x))
 }
 
-fn whole_of(z: i64) -> Outcome
+pub fn whole_of(z: i64) -> Outcome
     ensures { λ r. ⌜ (outcomeOf r ≡ done (whole z)) × RealOutcome r ⌝ }
 {
     Outcome::Done(Value::Whole(z))
 }
 
 // 18
-fn lround_of(x: u64) -> Outcome
+pub fn lround_of(x: u64) -> Outcome
     ensures { λ r. ⌜ (outcomeOf r ≡ cond (eqb (lroundRefusal binary64 x) 0) (done (whole (lroundValue binary64 x))) (refused 21)) × RealOutcome r ⌝ }
 {
     let answer = binary64::lround(x);
@@ -106,7 +106,7 @@ fn fmod_of(x: u64, y: u64) -> Outcome
 }
 
 // 23
-fn ldexp_of(x: u64, n: i64) -> Outcome
+pub fn ldexp_of(x: u64, n: i64) -> Outcome
     ensures { λ r. ⌜ (outcomeOf r ≡ cond (eqb (ldexpRefusal binary64 x n) 0) (done (real (ldexp binary64 x n))) (refused 21)) × RealOutcome r ⌝ }
 {
     let answer = scaling::binary64::ldexp(x, n);
@@ -117,7 +117,7 @@ fn ldexp_of(x: u64, n: i64) -> Outcome
 }
 
 // 30
-fn sum_of(m: i64, n: i64) -> Outcome
+pub fn sum_of(m: i64, n: i64) -> Outcome
     ensures { λ r. ⌜ (outcomeOf r ≡ cond (fitsWord (m +ℤ n)) (done (whole (m +ℤ n))) (refused 21)) × RealOutcome r ⌝ }
 {
     if sum_fits(m, n) {
@@ -127,7 +127,7 @@ fn sum_of(m: i64, n: i64) -> Outcome
 }
 
 // 31
-fn difference_of(m: i64, n: i64) -> Outcome
+pub fn difference_of(m: i64, n: i64) -> Outcome
     ensures { λ r. ⌜ (outcomeOf r ≡ cond (fitsWord (m -ℤ n)) (done (whole (m -ℤ n))) (refused 21)) × RealOutcome r ⌝ }
 {
     if difference_fits(m, n) {
@@ -153,7 +153,7 @@ fn pattern_of(z: i64, a: u64) -> u64
 }
 
 // 32
-fn double_of(z: i64) -> Outcome
+pub fn double_of(z: i64) -> Outcome
     ensures { λ r. ⌜ (outcomeOf r ≡ cond (leb (natAbs z) (2 ^ 53)) (done (real (ofWhole z))) (refused 22)) × RealOutcome r ⌝ }
 {
     let a = if at_least_zero(z) {

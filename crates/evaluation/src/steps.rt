@@ -38,7 +38,7 @@ pub fn refusal_at(number: u64, step: StepNumber) -> RunAnswer
 }
 
 // Where step i finds its operand k: at k, if that is an earlier step. Else at i itself, whose place still holds the start element.
-fn place_of(k: StepNumber, i: usize) -> usize
+pub fn place_of(k: StepNumber, i: usize) -> usize
     ensures { λ r. ⌜ (r ≡ cond (ltb (k .0) i) (k .0) i) × (r ≤ i) ⌝ }
 {
     let a = k.0 as usize;

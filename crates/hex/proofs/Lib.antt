@@ -1,3 +1,4 @@
--- One digit more, read or written, and the laws of fields.
+-- One digit more, read or written, the laws of fields, and lines written a part at a time.
 pub mod Digits
 pub mod Laws
+pub mod Parts

@@ -14,12 +14,12 @@ use Rattle.recipe.specs.Text.{Text, short, step, steps, refused, readTex
 
 -- ---- texts
 
-pub bytes : String → List ℕ
+unfoldable pub bytes : String → List ℕ
 bytes empty = []
 bytes (c before s) = code c ∷ bytes s
 
 -- each line ended by a line feed
-pub lines : List String → List ℕ
+unfoldable pub lines : List String → List ℕ
 lines [] = []
 lines (l ∷ ls) = bytes l ++ (10 ∷ lines ls)
 

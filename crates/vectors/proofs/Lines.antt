@@ -11,6 +11,7 @@ use lib.Seq.{take-all, take-at, take-suc-set, length-take-le}
 use borrow.Author.Tests.{eq-eqb}
 use Rattle.hex.specs.Hex.{digits}
 use Rattle.hex.proofs.Digits.{length-digits}
+use Rattle.hex.proofs.Parts.{put, set-next, put-next, length-put}
 use Rattle.hex.specs.declared.Field.{Field}
 use Rattle.vectors.specs.declared.case.Parsed.the-variants.{Malformed}
 use Rattle.vectors.specs.declared.answer.Answer.{Answer}
@@ -33,25 +34,6 @@ unfolding caseOf
 fields s function width x y h f w p q = rw (h, f, w, p, q)
 
 -- ---- written
-
--- the list with ys in the place of the k elements from a on
-abbrev put : ℕ → ℕ → List ℕ → List ℕ → List ℕ
-put a k l ys = take a l ++ (ys ++ drop k (drop a l))
-
--- what stands in front, after one byte more and after k bytes more
-set-next : (l p : List ℕ) (n v : ℕ) → n < length l → take n l ≡ p → take (suc n) (set l n v) ≡ p ++ (v ∷ [])
-set-next l p n v h e = take-suc-set l n v h ∙ ap (λ (q : List ℕ). q ++ (v ∷ [])) e
-
-pub put-next : (l p ys : List ℕ) (n k : ℕ) → n ≤ length l → length ys ≡ k → take n l ≡ p → take (n + k) (put n k l ys) ≡ p ++ ys
-put-next l p ys n k h g e =
-    let m : length (take n l) ≡ n = length-take-le n l h in
-    let w : length (take n l ++ ys) ≡ n + k = length-append (take n l) ys ∙ omega arith in
-    ap (take (n + k)) (sym (append-assoc (take n l) ys (drop k (drop n l)))) ∙ take-at (take n l ++ ys) (drop k (drop n l)) (n + k) w ∙ ap (λ (q : List ℕ). q ++ ys) e
-
-length-put : (l ys : List ℕ) (n k : ℕ) → n + k ≤ length l → length ys ≡ k → length (put n k l ys) ≡ length l
-length-put l ys n k h g =
-    let m : length (take n l) ≡ n = length-take-le n l (omega arith) in
-    simp (length-append, length-drop) (omega arith)
 
 module _ (xs a b d : List ℕ) (h : length xs ≡ 37) (p : length a ≡ 2) (q : length b ≡ 16) (r : length d ≡ 16) where
   written : set (put 20 16 (set (put 3 16 (set (a ++ drop 2 xs) 2 32) b) 19 32) d) 36 10 ≡ a ++ (32 ∷ (b ++ (32 ∷ (d ++ (10 ∷ [])))))

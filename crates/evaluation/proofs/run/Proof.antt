@@ -14,7 +14,10 @@ same-length : tie.Need-same-length
 same-length c = search needs
 
 returns : tie.Need-returns
-returns c = c .before .before .run-recipe .ensures (now (c .before .before .before .before .before .before .before .before .args .text)) (c .before .before .before .before .read .ensures)
+returns c =
+    let t = now (c .before .before .before .before .before .before .before .before .args .text) in
+    let g = c .before .before .before .before .read .ensures in
+    (c .before .before .run-recipe .ensures .0 t g, c .before .before .run-recipe .ensures .1 t g)
 
 pub run-spec : {M : Type 1} → statement M
 run-spec = tie.close (tie.spec read-requires run-recipe-requires same-length returns)

@@ -6,6 +6,7 @@ use native.Mathlib.Omega.{arith}
 use lib.ListN.{length}
 use denote.Ref.{now}
 use Rattle.evaluation.proofs.Calls.{Cut, cut, enough, run-refused, run-short, run-length, run-malformed, run-outside, run-reached}
+use Rattle.evaluation.proofs.Promises.{with-promise}
 use borrow.Author.Needs.{needs}
 use Rattle.evaluation.proofs.run_recipe.Statement.{statement}
 use Rattle.evaluation.proofs.run_recipe.Tie as tie
@@ -24,7 +25,7 @@ refusal-requires c κs = search needs
 returns : tie.Need-returns
 returns c =
     let a = c .before .before .before .before .before .args in
-    λ t g. rw (run-refused (a .recipe) t g (now (a .frame)) (length (now (a .words))) (c .before .if1 .taken)) (c .refusal .ensures, refl)
+    with-promise (a .recipe) (now (a .frame)) (now (a .words)) _ _ (λ t g. rw (run-refused (a .recipe) t g (now (a .frame)) (length (now (a .words))) (c .before .if1 .taken)) (c .refusal .ensures, refl))
 
 refusal-requires-2 : tie.Need-refusal-requires-2
 refusal-requires-2 c κs = search needs
@@ -32,7 +33,7 @@ refusal-requires-2 c κs = search needs
 returns-2 : tie.Need-returns-2
 returns-2 c =
     let a = c .before .before .before .before .before .before .before .before .args in
-    λ t g. rw (run-short (a .recipe) t g (now (a .frame)) (length (now (a .words))) (c .before .before .before .before .if1 .left) _ (steps-cut (c .before .before)) (c .before .if3 .taken)) (c .refusal2 .ensures, refl)
+    with-promise (a .recipe) (now (a .frame)) (now (a .words)) _ _ (λ t g. rw (run-short (a .recipe) t g (now (a .frame)) (length (now (a .words))) (c .before .before .before .before .if1 .left) _ (steps-cut (c .before .before)) (c .before .if3 .taken)) (c .refusal2 .ensures, refl))
 
 input-total-requires : tie.Need-input-total-requires
 input-total-requires c κs = steps-cut (c .before) .fits
@@ -46,7 +47,7 @@ refusal-requires-3 c κs = search needs
 returns-3 : tie.Need-returns-3
 returns-3 c =
     let a = c .before .before .before .before .before .before .before .before .before .before .args in
-    λ t g. rw (run-length (a .recipe) t g (now (a .frame)) (length (now (a .words))) (c .before .before .before .before .before .before .if1 .left) _ (steps-cut (c .before .before .before .before)) (c .before .before .before .if3 .left) _ (c .before .before .input-total .ensures .0) (c .before .if4 .taken)) (c .refusal3 .ensures, refl)
+    with-promise (a .recipe) (now (a .frame)) (now (a .words)) _ _ (λ t g. rw (run-length (a .recipe) t g (now (a .frame)) (length (now (a .words))) (c .before .before .before .before .before .before .if1 .left) _ (steps-cut (c .before .before .before .before)) (c .before .before .before .if3 .left) _ (c .before .before .input-total .ensures .0) (c .before .if4 .taken)) (c .refusal3 .ensures, refl))
 
 read-words-requires : tie.Need-read-words-requires
 read-words-requires c κs = ⊎-elim (λ w. omega arith) (λ w. omega arith) (c .if5 .came)
@@ -57,7 +58,7 @@ refusal-requires-4 c κs = search needs
 returns-4 : tie.Need-returns-4
 returns-4 c =
     let a = c .before .before .before .before .before .before .before .before .before .before .before .before .before .args in
-    λ t g. rw (run-malformed (a .recipe) t g (now (a .frame)) (length (now (a .words))) (c .before .before .before .before .before .before .before .before .before .if1 .left) _ (steps-cut (c .before .before .before .before .before .before .before)) (c .before .before .before .before .before .before .if3 .left) _ (c .before .before .before .before .before .input-total .ensures .0) (c .before .before .before .before .if4 .left) _ (inputs-cut (c .before .before .before)) _ (c .before .before .read-words .ensures) (c .before .if6 .taken)) (c .refusal4 .ensures, refl)
+    with-promise (a .recipe) (now (a .frame)) (now (a .words)) _ _ (λ t g. rw (run-malformed (a .recipe) t g (now (a .frame)) (length (now (a .words))) (c .before .before .before .before .before .before .before .before .before .if1 .left) _ (steps-cut (c .before .before .before .before .before .before .before)) (c .before .before .before .before .before .before .if3 .left) _ (c .before .before .before .before .before .input-total .ensures .0) (c .before .before .before .before .if4 .left) _ (inputs-cut (c .before .before .before)) _ (c .before .before .read-words .ensures) (c .before .if6 .taken)) (c .refusal4 .ensures, refl))
 
 check-ranges-requires : tie.Need-check-ranges-requires
 check-ranges-requires c κs = steps-cut (c .before .before .before .before .before .before) .fits
@@ -80,14 +81,14 @@ same-length c = search needs
 returns-5 : tie.Need-returns-5
 returns-5 c =
     let a = c .before .before .before .before .before .before .before .before .before .before .before .before .before .before .before .before .before .before .before .args in
-    λ t g.
+    with-promise (a .recipe) (now (a .frame)) (now (a .words)) _ _ (λ t g.
     let x = run-reached (a .recipe) t g (now (a .frame)) (length (now (a .words))) (c .before .before .before .before .before .before .before .before .before .before .before .before .before .before .before .if1 .left) _ (steps-cut (c .before .before .before .before .before .before .before .before .before .before .before .before .before)) (c .before .before .before .before .before .before .before .before .before .before .before .before .if3 .left) _ (c .before .before .before .before .before .before .before .before .before .before .before .input-total .ensures .0) (c .before .before .before .before .before .before .before .before .before .before .if4 .left) _ (inputs-cut (c .before .before .before .before .before .before .before .before .before)) _ (c .before .before .before .before .before .before .before .before .read-words .ensures) (c .before .before .before .before .before .before .before .if6 .left) _ (c .before .before .before .before .before .before .check-ranges .ensures) (c .before .before .before .before .enum-told .given .1) in
-    rw (x .is) (c .before .before .evaluate .ensures (enough (a .recipe) t g (now (a .frame)) (length (now (a .words))) (c .before .before .before .before .before .before .before .before .before .before .before .before .before .before .before .if1 .left) _ (steps-cut (c .before .before .before .before .before .before .before .before .before .before .before .before .before))) (x .list) (x .same))
+    rw (x .is) (c .before .before .evaluate .ensures (enough (a .recipe) t g (c .before .before .before .before .before .before .before .before .before .before .before .before .before .before .before .if1 .left) _ (steps-cut (c .before .before .before .before .before .before .before .before .before .before .before .before .before))) (x .list) (x .same)))
 
 returns-6 : tie.Need-returns-6
 returns-6 c =
     let a = c .before .before .before .before .before .before .before .before .before .before .before .before .before .before .before .before .before .args in
-    λ t g. rw (run-outside (a .recipe) t g (now (a .frame)) (length (now (a .words))) (c .before .before .before .before .before .before .before .before .before .before .before .before .before .if1 .left) _ (steps-cut (c .before .before .before .before .before .before .before .before .before .before .before)) (c .before .before .before .before .before .before .before .before .before .before .if3 .left) _ (c .before .before .before .before .before .before .before .before .before .input-total .ensures .0) (c .before .before .before .before .before .before .before .before .if4 .left) _ (inputs-cut (c .before .before .before .before .before .before .before)) _ (c .before .before .before .before .before .before .read-words .ensures) (c .before .before .before .before .before .if6 .left) _ (c .before .before .before .before .check-ranges .ensures) _ (c .before .before .step .given .1)) (c .refusal-at .ensures, refl)
+    with-promise (a .recipe) (now (a .frame)) (now (a .words)) _ _ (λ t g. rw (run-outside (a .recipe) t g (now (a .frame)) (length (now (a .words))) (c .before .before .before .before .before .before .before .before .before .before .before .before .before .if1 .left) _ (steps-cut (c .before .before .before .before .before .before .before .before .before .before .before)) (c .before .before .before .before .before .before .before .before .before .before .if3 .left) _ (c .before .before .before .before .before .before .before .before .before .input-total .ensures .0) (c .before .before .before .before .before .before .before .before .if4 .left) _ (inputs-cut (c .before .before .before .before .before .before .before)) _ (c .before .before .before .before .before .before .read-words .ensures) (c .before .before .before .before .before .if6 .left) _ (c .before .before .before .before .check-ranges .ensures) _ (c .before .before .step .given .1)) (c .refusal-at .ensures, refl))
 
 pub run-recipe-spec : {M : Type 1} → statement M
 run-recipe-spec =

@@ -7,7 +7,8 @@ use native.Mathlib.Omega.{arith}
 use lib.ListN.{length, take, drop}
 use denote.Ref.{now}
 use Rattle.vectors.specs.Line.{responseOf, responses}
-use Rattle.vectors.proofs.Lines.{none, more, put-next}
+use Rattle.hex.proofs.Parts.{put-next}
+use Rattle.vectors.proofs.Lines.{none, more}
 use Rattle.vectors.proofs.respond_all.Statement.{statement}
 use Rattle.vectors.proofs.respond_all.Tie as tie
 

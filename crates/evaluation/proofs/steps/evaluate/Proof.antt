@@ -11,7 +11,7 @@ use denote.Ref.{now}
 use Rattle.evaluation.specs.declared.Value.the-variants.{Double}
 use Rattle.evaluation.proofs.Lists.{copy-more, copied-length}
 use Rattle.evaluation.proofs.Reading.{word-at}
-use Rattle.evaluation.proofs.Running.{word, Going, going-start, going-more, going-refused, going-done, fetch-real, fetch-last, written}
+use Rattle.evaluation.proofs.Running.{word, Going, going-start, going-more, going-refused, going-done, fetch-real, fetch-end, written}
 use borrow.Author.Needs.{needs}
 use Rattle.evaluation.proofs.steps.evaluate.Statement.{statement}
 use Rattle.evaluation.proofs.steps.evaluate.Tie as tie
@@ -148,7 +148,7 @@ slice-write-words c =
     let a = c .before .before .before .before .before .before .before .args in
     let l = c .before .before .before .before .before .loop in
     let k = c .before .before .before .loop2 in
-    let w = l .inv .long in
+    let w = l .inv .filled .long in
     let h : length (k .words) ≡ length (now (a .words)) = rw (k .inv .1) (copied-length word (l .values) (now (a .words)) (k .j) (omega arith) (omega arith)) in
     omega arith
 
@@ -163,7 +163,7 @@ loop2-again c =
     let a = c .before .before .before .before .before .before .before .args in
     let l = c .before .before .before .before .before .loop in
     let k = c .before .before .before .loop2 in
-    let w = l .inv .long in
+    let w = l .inv .filled .long in
     (omega arith, rw (k .inv .1, c .word .ensures) (copy-more word (l .values) (now (a .words)) (k .j) _ (omega arith) (omega arith)))
 
 sub-end : tie.Need-sub-end Inv-loop μ-loop Inv-loop2 μ-loop2
@@ -195,7 +195,7 @@ same-length c =
     let a = c .before .before .before .before .before .before .before .before .before .before .before .args in
     let l = c .before .before .before .before .before .before .before .before .before .loop in
     let k = c .before .before .before .before .before .before .before .loop2 in
-    let w = l .inv .long in
+    let w = l .inv .filled .long in
     rw (k .inv .1) (copied-length word (l .values) (now (a .words)) (k .j) (omega arith) (omega arith))
 
 returns-2 : tie.Need-returns-2 Inv-loop μ-loop Inv-loop2 μ-loop2
@@ -203,10 +203,10 @@ returns-2 c =
     let a = c .before .before .before .before .before .before .before .before .before .before .before .args in
     let l = c .before .before .before .before .before .before .before .before .before .loop in
     let k = c .before .before .before .before .before .before .before .loop2 in
-    let w = l .inv .long in
+    let w = l .inv .filled .long in
     let e : k .j ≡ a .n = omega arith in
     let p : c .before .before .before .before .before .if2 .end ≡ a .n - 1 = ⊎-elim (λ w. omega arith) (λ w. omega arith) (c .before .before .before .before .before .if2 .came) in
-    let z = fetch-last (a .n) (a .t1 .steps) (a .t3 .words) (l .values) (l .next .0) (l .i) (l .inv) _ (Double nan) (omega arith) (omega arith) p in
+    let z = fetch-end (a .n) (a .t1 .steps) (a .t3 .words) (l .values) (l .next .0) (l .i) (l .inv) _ (Double nan) (omega arith) (omega arith) p in
     λ s ws q.
     rw (going-done (a .n) (a .t1 .steps) (a .t3 .words) (l .values) (l .next .0) (l .i) (l .inv) (omega arith) s ws q)
     (rw (c .before .number2 .ensures, c .before .before .kind .ensures, c .word2 .ensures, z), rw (k .inv .1, e) (written (l .values) (a .n) (now (a .words)) (omega arith)))
