@@ -1,5 +1,5 @@
 //! The library's C functions. Those of single values take and return numbers only, so every call is
-//! safe; `run` has a safe form over slices.
+//! safe; `run` and `sheet` have safe forms over slices.
 
 use crate::answer::Answer;
 use crate::reference::recipe::{Refusal, StepValue};
@@ -138,6 +138,44 @@ impl fmt::Display for RunAnswer {
     }
 }
 
+/// What a sheet gives back, `ew_sheet_answer` of the header: a refusal's number and place, or the
+/// number of steps. What isn't given is 0.
+#[repr(C)]
+#[derive(Clone, Copy, Debug, PartialEq, Eq)]
+pub struct SheetAnswer {
+    pub refusal: u64,
+    pub place: u64,
+    pub steps: u64,
+}
+
+impl SheetAnswer {
+    /// The answer of a passed sheet of so many steps.
+    pub fn passed(steps: usize) -> SheetAnswer {
+        SheetAnswer {
+            refusal: 0,
+            place: 0,
+            steps: steps as u64,
+        }
+    }
+}
+
+impl From<Refusal> for SheetAnswer {
+    fn from(refusal: Refusal) -> SheetAnswer {
+        SheetAnswer {
+            refusal: refusal.number,
+            place: refusal.place,
+            steps: 0,
+        }
+    }
+}
+
+impl fmt::Display for SheetAnswer {
+    fn fmt(&self, f: &mut fmt::Formatter) -> fmt::Result {
+        let (refusal, place, steps) = (self.refusal, self.place, self.steps);
+        write!(f, "refusal {refusal} place {place} steps {steps}")
+    }
+}
+
 /// `ew_run`: `words` is the lent memory.
 #[inline]
 pub fn run(text: &[u8], frame: &[u8], words: &mut [u64]) -> RunAnswer {
@@ -154,6 +192,13 @@ pub fn run(text: &[u8], frame: &[u8], words: &mut [u64]) -> RunAnswer {
     }
 }
 
+/// `ew_sheet`: `sheet` is the lent memory.
+#[inline]
+pub fn sheet(text: &[u8], sheet: &mut [u8]) -> SheetAnswer {
+    // SAFETY: the pointers and lengths are those of slices, and only `sheet` is lent for writing.
+    unsafe { ew_sheet(text.as_ptr(), text.len(), sheet.as_mut_ptr(), sheet.len()) }
+}
+
 unsafe extern "C" {
     /// Reads `text` and `frame` and writes `words`, each as long as the number after it says. A
     /// pointer may be null where that is 0.
@@ -165,6 +210,14 @@ unsafe extern "C" {
         words: *mut u64,
         words_len: usize,
     ) -> RunAnswer;
+    /// Reads `text` and writes `sheet`, each as long as the number after it says. A pointer may be
+    /// null where that is 0.
+    pub fn ew_sheet(
+        text: *const u8,
+        text_len: usize,
+        sheet: *mut u8,
+        sheet_len: usize,
+    ) -> SheetAnswer;
     pub safe fn ew_floor_f64(x: u64) -> u64;
     pub safe fn ew_floor_f32(x: u32) -> u32;
     pub safe fn ew_ceil_f64(x: u64) -> u64;

@@ -1,41 +1,45 @@
-//! Times the library's run beside a plain interpreter's, on recipes of mixed steps that complete.
+//! Times the library's run and sheet beside a plain interpreter's, on recipes of mixed steps that
+//! complete or pass.
 //!
 //! 64 recipes each of 16, 32, 64 and 128 steps, over numbers as a host has them and over those of
 //! the tests, which are harder: subnormal, huge, with exponents far apart. The two take turns, and
-//! each number is a median of their turns, so that what else the machine does falls on both.
-//! `--profile speed` leaves out the overflow checks that the tests have.
+//! so do the lengths; each number is a median of its turns, so that what else the machine does
+//! falls on all. `--profile speed` leaves out the overflow checks that the tests have. Fails where
+//! a sheet misses a target.
 
-use estrenwind_tests::library::RunAnswer;
 use estrenwind_tests::patterns::Random;
-use estrenwind_tests::recipes::growing::{grow, Plan};
-use estrenwind_tests::recipes::Call;
+use estrenwind_tests::recipes::growing::{grow, grow_sheet, Plan};
+use estrenwind_tests::recipes::{Call, SheetCall};
 use estrenwind_tests::{interpreter, library};
 use std::hint::black_box;
+use std::process::ExitCode;
 use std::time::Instant;
 
 const RECIPES: usize = 64;
 const TURNS: usize = 401;
+const STEPS: [usize; 4] = [16, 32, 64, 128];
 
-type Run = fn(&[u8], &[u8], &mut [u64]) -> RunAnswer;
+/// A sheet of 128 steps may take so many times the plain one's time, and a step of it so many times
+/// a step of a sheet of 16: what it takes grows with the steps and not faster.
+const MOST_TIMES: f64 = 2.0;
+const MOST_GROWTH: f64 = 1.25;
 
-/// Recipes of so many steps, one in eight an input, each with its frame.
-fn calls(random: &mut Random, steps: usize, ordinary: bool) -> Vec<Call> {
-    let plan = Plan {
+/// Recipes of so many steps, one in eight an input.
+fn plan(steps: usize, ordinary: bool) -> Plan {
+    Plan {
         steps,
         inputs: (0..steps).step_by(8).take(16).collect(),
         chain: false,
         ordinary,
         refusing: vec![],
-    };
-    let mut call = || grow(random, &plan).0.call();
-    (0..RECIPES).map(|_| call()).collect()
+    }
 }
 
 /// Nanoseconds a call, over all of the calls.
-fn time(run: Run, calls: &[Call], words: &mut [u64]) -> f64 {
+fn time<C>(answer: &mut impl FnMut(&C), calls: &[C]) -> f64 {
     let start = Instant::now();
     for call in calls {
-        black_box(run(black_box(&call.text), black_box(&call.frame), words));
+        answer(call);
     }
     start.elapsed().as_nanos() as f64 / calls.len() as f64
 }
@@ -45,46 +49,142 @@ fn median(mut times: Vec<f64>) -> f64 {
     times[times.len() / 2]
 }
 
-fn main() {
-    println!("numbers as a host has them");
-    table(true);
-    println!("numbers of the tests");
-    table(false);
+/// Nanoseconds a call of the library's and of the interpreter's.
+struct Times {
+    steps: usize,
+    library: f64,
+    plain: f64,
 }
 
-fn table(ordinary: bool) {
-    let mut random = Random::new(41);
-    let mut words = [0; 128];
-    println!("           library                        plain interpreter              library /");
-    println!("steps  ns a frame   a step   a byte   ns a frame   a step   a byte   interpreter");
-    for steps in [16, 32, 64, 128] {
-        let calls = calls(&mut random, steps, ordinary);
-        for call in &calls {
-            let answers = [library::run, interpreter::run]
-                .map(|run: Run| run(&call.text, &call.frame, &mut words));
-            assert_eq!(answers[0], answers[1], "{call}");
-            assert_eq!(answers[0].refusal, 0, "{call}");
-        }
-        let (mut ours, mut plain) = (Vec::new(), Vec::new());
-        for turn in 0..TURNS {
+impl Times {
+    fn of_a_step(&self) -> f64 {
+        self.library / self.steps as f64
+    }
+
+    fn ratio(&self) -> f64 {
+        self.library / self.plain
+    }
+}
+
+/// The times on calls of each length.
+fn race<C>(
+    calls: &[Vec<C>; 4],
+    mut library: impl FnMut(&C),
+    mut plain: impl FnMut(&C),
+) -> [Times; 4] {
+    let mut ours = [const { Vec::new() }; 4];
+    let mut theirs = [const { Vec::new() }; 4];
+    for turn in 0..TURNS {
+        for length in 0..4 {
+            let calls = &calls[length];
             // Whoever goes second finds the texts in the cache.
             if turn % 2 == 0 {
-                ours.push(time(library::run, &calls, &mut words));
-                plain.push(time(interpreter::run, &calls, &mut words));
+                ours[length].push(time(&mut library, calls));
+                theirs[length].push(time(&mut plain, calls));
             } else {
-                plain.push(time(interpreter::run, &calls, &mut words));
-                ours.push(time(library::run, &calls, &mut words));
+                theirs[length].push(time(&mut plain, calls));
+                ours[length].push(time(&mut library, calls));
             }
         }
-        let (ours, plain) = (median(ours), median(plain));
-        let (a_step, a_byte) = (steps as f64, 39.0 * steps as f64);
+    }
+    let [ours, theirs] = [ours, theirs].map(|times| times.map(median));
+    [0, 1, 2, 3].map(|length| Times {
+        steps: STEPS[length],
+        library: ours[length],
+        plain: theirs[length],
+    })
+}
+
+fn race_runs(ordinary: bool) -> [Times; 4] {
+    let mut random = Random::new(41);
+    let calls: [Vec<Call>; 4] = STEPS.map(|steps| {
+        let plan = plan(steps, ordinary);
+        let mut call = || grow(&mut random, &plan).0.call();
+        (0..RECIPES).map(|_| call()).collect()
+    });
+    let [mut ours, mut theirs] = [[0; 128]; 2];
+    for call in calls.iter().flatten() {
+        let answer = library::run(&call.text, &call.frame, &mut ours);
+        let expected = interpreter::run(&call.text, &call.frame, &mut theirs);
+        assert_eq!((answer, ours), (expected, theirs), "{call}");
+        assert_eq!(answer.refusal, 0, "{call}");
+    }
+    race(
+        &calls,
+        |call| {
+            let (text, frame) = (black_box(&call.text), black_box(&call.frame));
+            black_box(library::run(text, frame, &mut ours));
+        },
+        |call| {
+            let (text, frame) = (black_box(&call.text), black_box(&call.frame));
+            black_box(interpreter::run(text, frame, &mut theirs));
+        },
+    )
+}
+
+fn race_sheets(ordinary: bool) -> [Times; 4] {
+    let mut random = Random::new(42);
+    let calls: [Vec<SheetCall>; 4] = STEPS.map(|steps| {
+        let plan = plan(steps, ordinary);
+        let mut call = || grow_sheet(&mut random, &plan).0.sheet_call();
+        (0..RECIPES).map(|_| call()).collect()
+    });
+    let [mut ours, mut theirs] = [[0; 37 * 128]; 2];
+    for call in calls.iter().flatten() {
+        let answer = library::sheet(&call.text, &mut ours);
+        let expected = interpreter::sheet(&call.text, &mut theirs);
+        assert_eq!((answer, ours), (expected, theirs), "{call}");
+        assert_eq!(answer.refusal, 0, "{call}");
+    }
+    race(
+        &calls,
+        |call| {
+            black_box(library::sheet(black_box(&call.text), &mut ours));
+        },
+        |call| {
+            black_box(interpreter::sheet(black_box(&call.text), &mut theirs));
+        },
+    )
+}
+
+fn print(title: &str, times: &[Times; 4]) {
+    println!("{title}");
+    println!("           library                        plain interpreter              library /");
+    println!("steps   ns a call   a step   a byte    ns a call   a step   a byte   interpreter");
+    for times in times {
+        let (a_step, a_byte) = (times.steps as f64, 39.0 * times.steps as f64);
         println!(
-            "{steps:5} {ours:11.0} {:8.1} {:8.2} {plain:12.0} {:8.1} {:8.2} {:13.2}",
-            ours / a_step,
-            ours / a_byte,
-            plain / a_step,
-            plain / a_byte,
-            ours / plain,
+            "{:5} {:11.0} {:8.1} {:8.2} {:12.0} {:8.1} {:8.2} {:13.2}",
+            times.steps,
+            times.library,
+            times.library / a_step,
+            times.library / a_byte,
+            times.plain,
+            times.plain / a_step,
+            times.plain / a_byte,
+            times.ratio(),
         );
     }
+}
+
+fn main() -> ExitCode {
+    let mut missed = false;
+    for (numbers, ordinary) in [
+        ("numbers as a host has them", true),
+        ("numbers of the tests", false),
+    ] {
+        print(&format!("runs, {numbers}"), &race_runs(ordinary));
+        let sheets = race_sheets(ordinary);
+        print(&format!("sheets, {numbers}"), &sheets);
+        let [shortest, .., longest] = &sheets;
+        let (ratio, growth) = (longest.ratio(), longest.of_a_step() / shortest.of_a_step());
+        println!("128 steps take {ratio:.2} times the plain sheet's time (at most {MOST_TIMES})");
+        println!("a step of 128 takes {growth:.2} times one of 16 (at most {MOST_GROWTH})");
+        missed |= ratio > MOST_TIMES || growth > MOST_GROWTH;
+    }
+    if missed {
+        println!("the sheet misses a target");
+        return ExitCode::FAILURE;
+    }
+    ExitCode::SUCCESS
 }

@@ -1,20 +1,79 @@
-//! Damaged calls: each refusal at the first, some or the last place, alone or beside another.
+//! Damaged calls of runs and sheets: each refusal at the first, some or the last place, alone or
+//! beside another.
 //!
 //! A fault is known by the number of the refusal that it is there for.
 
-use super::growing::grow;
-use super::{Call, Draft};
+use super::growing::{grow, grow_sheet, Grow};
+use super::{Call, Draft, SheetCall};
 use crate::patterns::Random;
 use crate::reference::recipe::text::{LINE, MOST_INPUTS, MOST_STEPS};
-use crate::reference::recipe::{Kind, Operation, Refusal, Source, Way, OPERATIONS};
+use crate::reference::recipe::{sheet, Kind, Operation, Refusal, Source, Way, OPERATIONS};
 use std::cmp::Ordering;
 
 /// Every refusal of a run.
 pub const REFUSALS: [u64; 15] = [10, 11, 12, 13, 14, 15, 16, 17, 40, 30, 31, 32, 20, 21, 22];
 
-/// A call with these faults, and the refusals that each alone would be given: fewer where one
-/// didn't fit. Without faults, a call that completes.
+/// Every refusal of a sheet.
+pub const SHEET_REFUSALS: [u64; 12] = [10, 11, 12, 13, 14, 15, 16, 17, 40, 20, 21, 22];
+
+/// A run with these faults, and the refusals that each alone would be given: fewer where one
+/// didn't fit. Without faults, a run that completes.
 pub fn damaged(random: &mut Random, faults: &[u64]) -> (Call, Vec<Refusal>) {
+    let (draft, mut refusals) = damaged_draft(random, faults, grow);
+    let mut call = draft.call();
+    for &fault in faults {
+        let beside = last_place(&refusals);
+        let place = match fault {
+            11 => wrong_byte(random, &mut call.text, beside),
+            40 => {
+                call.lent = random.less_than(draft.lines.len());
+                Some(0)
+            }
+            30 => wrong_frame_length(random, &mut call),
+            31 => wrong_frame_byte(random, &mut call),
+            _ => None,
+        };
+        refusals.extend(place.map(|place| Refusal::at(fault, place)));
+    }
+    if faults.contains(&10) {
+        wrong_length(random, &mut call.text);
+        refusals.push(Refusal::whole_call(10));
+    }
+    if !faults.contains(&40) && random.below(2) == 0 {
+        call.lent += 1 + random.below(5) as usize;
+    }
+    (call, refusals)
+}
+
+/// A sheet with these faults, and the refusals that each alone would be given: fewer where one
+/// didn't fit. Without faults, a sheet that passes.
+pub fn damaged_sheet(random: &mut Random, faults: &[u64]) -> (SheetCall, Vec<Refusal>) {
+    let (draft, mut refusals) = damaged_draft(random, faults, grow_sheet);
+    let mut call = draft.sheet_call();
+    for &fault in faults {
+        let beside = last_place(&refusals);
+        let place = match fault {
+            11 => wrong_byte(random, &mut call.text, beside),
+            40 => {
+                call.lent = random.less_than(sheet::LINE * draft.lines.len());
+                Some(0)
+            }
+            _ => None,
+        };
+        refusals.extend(place.map(|place| Refusal::at(fault, place)));
+    }
+    if faults.contains(&10) {
+        wrong_length(random, &mut call.text);
+        refusals.push(Refusal::whole_call(10));
+    }
+    if !faults.contains(&40) && random.below(2) == 0 {
+        call.lent += 1 + random.below(2 * sheet::LINE as u64) as usize;
+    }
+    (call, refusals)
+}
+
+/// A recipe with those of the faults that are its lines' or its words'.
+fn damaged_draft(random: &mut Random, faults: &[u64], grow: Grow) -> (Draft, Vec<Refusal>) {
     let steps: Vec<u64> = faults
         .iter()
         .copied()
@@ -34,7 +93,7 @@ pub fn damaged(random: &mut Random, faults: &[u64]) -> (Call, Vec<Refusal>) {
     let seventeenth = draft.inputs().get(MOST_INPUTS).copied();
     refusals.extend(seventeenth.map(|place| Refusal::at(17, place)));
     for &fault in faults {
-        let beside = refusals.last().map(|refusal| refusal.place as usize);
+        let beside = last_place(&refusals);
         let place = match fault {
             12 => wrong_opcode(random, &mut draft, beside),
             13 => unused_field(random, &mut draft, beside),
@@ -46,26 +105,12 @@ pub fn damaged(random: &mut Random, faults: &[u64]) -> (Call, Vec<Refusal>) {
         };
         refusals.extend(place.map(|place| Refusal::at(fault, place)));
     }
-    let mut call = draft.call();
-    for &fault in faults {
-        let beside = refusals.last().map(|refusal| refusal.place as usize);
-        let place = match fault {
-            11 => wrong_byte(random, &mut call, beside),
-            40 => short_memory(random, &mut call),
-            30 => wrong_frame_length(random, &mut call),
-            31 => wrong_frame_byte(random, &mut call),
-            _ => None,
-        };
-        refusals.extend(place.map(|place| Refusal::at(fault, place)));
-    }
-    if faults.contains(&10) {
-        wrong_length(random, &mut call);
-        refusals.push(Refusal::whole_call(10));
-    }
-    if !faults.contains(&40) && random.below(2) == 0 {
-        call.lent += 1 + random.below(5) as usize;
-    }
-    (call, refusals)
+    (draft, refusals)
+}
+
+/// The place that another fault may stand beside.
+fn last_place(refusals: &[Refusal]) -> Option<usize> {
+    refusals.last().map(|refusal| refusal.place as usize)
 }
 
 /// Of these places the first, some, or the last; the one beside another fault in half of the cases.
@@ -92,27 +137,26 @@ fn lines_where(draft: &Draft, fits: impl Fn(usize, &'static Operation) -> bool) 
     (0..draft.lines.len()).filter(fits).collect()
 }
 
-fn wrong_length(random: &mut Random, call: &mut Call) {
+fn wrong_length(random: &mut Random, text: &mut Vec<u8>) {
     match random.below(6) {
-        0 => call.text.clear(),
+        0 => text.clear(),
         1 => {
-            let rest = random.below(call.text.len() as u64) as usize;
-            call.text
-                .truncate(rest / LINE * LINE + 1 + rest % (LINE - 1));
+            let rest = random.below(text.len() as u64) as usize;
+            text.truncate(rest / LINE * LINE + 1 + rest % (LINE - 1));
         }
-        2 => call.text.push(b'\n'),
+        2 => text.push(b'\n'),
         3 => {
             let more = 1 + random.below(LINE as u64 - 1) as usize;
-            call.text.extend_from_within(..more);
+            text.extend_from_within(..more);
         }
-        4 => drop(call.text.pop()),
+        4 => drop(text.pop()),
         _ => {
             // A line too many, or up to as many again.
-            let line = call.text[call.text.len() - LINE..].to_vec();
+            let line = text[text.len() - LINE..].to_vec();
             let more = [1, 1 + random.below(MOST_STEPS as u64) as usize];
             let lines = MOST_STEPS + more[random.below(2) as usize];
-            while call.text.len() < lines * LINE {
-                call.text.extend_from_slice(&line);
+            while text.len() < lines * LINE {
+                text.extend_from_slice(&line);
             }
         }
     }
@@ -132,8 +176,8 @@ fn no_digit(random: &mut Random) -> u8 {
     }
 }
 
-fn wrong_byte(random: &mut Random, call: &mut Call, beside: Option<usize>) -> Option<usize> {
-    let places: Vec<usize> = (0..call.text.len() / LINE).collect();
+fn wrong_byte(random: &mut Random, text: &mut [u8], beside: Option<usize>) -> Option<usize> {
+    let places: Vec<usize> = (0..text.len() / LINE).collect();
     let place = chosen(random, &places, beside)?;
     let column = match random.below(4) {
         0 => LINE - 1,
@@ -145,7 +189,7 @@ fn wrong_byte(random: &mut Random, call: &mut Call, beside: Option<usize>) -> Op
     } else {
         no_digit(random)
     };
-    call.text[place * LINE + column] = byte;
+    text[place * LINE + column] = byte;
     Some(place)
 }
 
@@ -274,14 +318,15 @@ fn wrong_range(random: &mut Random, draft: &mut Draft, beside: Option<usize>) ->
     Some(place)
 }
 
-fn short_memory(random: &mut Random, call: &mut Call) -> Option<usize> {
-    let steps = call.text.len() / LINE;
-    call.lent = match random.below(3) {
-        0 => 0,
-        1 => steps - 1,
-        _ => random.below(steps as u64) as usize,
-    };
-    Some(0)
+impl Random {
+    /// Less memory than is needed: none, too little by one, or any.
+    fn less_than(&mut self, needed: usize) -> usize {
+        match self.below(3) {
+            0 => 0,
+            1 => needed - 1,
+            _ => self.below(needed as u64) as usize,
+        }
+    }
 }
 
 fn wrong_frame_length(random: &mut Random, call: &mut Call) -> Option<usize> {
@@ -317,7 +362,7 @@ fn input_outside(random: &mut Random, draft: &mut Draft) -> Option<usize> {
 #[cfg(test)]
 mod tests {
     use super::*;
-    use crate::reference::recipe::run;
+    use crate::reference::recipe::{run, sheet};
     use std::collections::BTreeMap;
 
     /// "Order: 10; then line by line 11 to 17; then 40; for a run 30, 31, then 32 by input; then
@@ -334,7 +379,10 @@ mod tests {
         }
     }
 
-    fn check(random: &mut Random, faults: &[u64]) -> Vec<Refusal> {
+    /// Checks what is given for a call with these faults, and tells what each would be.
+    type Check = fn(&mut Random, &[u64]) -> Vec<Refusal>;
+
+    fn check_run(random: &mut Random, faults: &[u64]) -> Vec<Refusal> {
         let (call, refusals) = damaged(random, faults);
         let answer = run(Way::Short, &call.text, &call.frame, call.lent);
         let expected = refusals.iter().min_by_key(|refusal| turn(refusal));
@@ -346,30 +394,54 @@ mod tests {
         refusals
     }
 
+    fn check_sheet(random: &mut Random, faults: &[u64]) -> Vec<Refusal> {
+        let (call, refusals) = damaged_sheet(random, faults);
+        let answer = sheet(Way::Short, &call.text, call.lent);
+        let expected = refusals.iter().min_by_key(|refusal| turn(refusal));
+        assert_eq!(
+            answer.err().as_ref(),
+            expected,
+            "{faults:?} {refusals:?}\n{call}"
+        );
+        refusals
+    }
+
+    const CALLS: [(Check, &[u64]); 2] = [(check_run, &REFUSALS), (check_sheet, &SHEET_REFUSALS)];
+
     #[test]
-    fn without_a_fault_a_run_completes() {
+    fn without_a_fault_nothing_is_refused() {
         let mut random = Random::new(15);
-        for _ in 0..2_000 {
-            assert!(check(&mut random, &[]).is_empty());
+        for (check, _) in CALLS {
+            for _ in 0..2_000 {
+                assert!(check(&mut random, &[]).is_empty());
+            }
         }
     }
 
     #[test]
     fn one_fault_is_the_refusal_that_it_is_there_for() {
         let mut random = Random::new(16);
-        for fault in REFUSALS {
-            let made = (0..2_000).filter(|_| !check(&mut random, &[fault]).is_empty());
-            assert!(made.count() > 500, "{fault}");
+        for (check, refusals) in CALLS {
+            for &fault in refusals {
+                let made = (0..2_000).filter(|_| !check(&mut random, &[fault]).is_empty());
+                assert!(made.count() > 500, "{fault}");
+            }
         }
     }
 
     /// Both orders of two faults, in one line where they fit one.
     #[test]
     fn of_two_faults_the_first_in_order_is_given() {
+        for (check, refusals) in CALLS {
+            of_two_faults(check, refusals);
+        }
+    }
+
+    fn of_two_faults(check: Check, refusals: &[u64]) {
         let mut random = Random::new(17);
         let mut in_one_line: BTreeMap<[u64; 2], u64> = BTreeMap::new();
-        for first in REFUSALS {
-            for second in REFUSALS.into_iter().filter(|&second| second != first) {
+        for &first in refusals {
+            for &second in refusals.iter().filter(|&&second| second != first) {
                 let mut both = 0;
                 for _ in 0..400 {
                     let refusals = check(&mut random, &[first, second]);

@@ -1,11 +1,13 @@
-//! Valid recipes, grown along a frame: a step is chosen when the values before it are known, so
-//! that long runs come to their end, or are refused at the step where they should be.
+//! Valid recipes, grown step by step: one is chosen when what comes before it is known, so that long
+//! recipes come to their end, or are refused at the step where they should be. What is known is a
+//! step's value over a frame, for runs, or its range, for sheets.
 
 use super::values::ordinary_range;
 use super::{Draft, Line};
 use crate::patterns::Random;
+use crate::reference::recipe::operations::Function;
 use crate::reference::recipe::text::{MOST_INPUTS, MOST_STEPS};
-use crate::reference::recipe::{Kind, Source, StepValue, Way, OPERATIONS};
+use crate::reference::recipe::{Kind, Range, Source, Way, OPERATIONS};
 
 /// What a recipe is to be like.
 #[derive(Clone, Debug)]
@@ -111,22 +113,98 @@ impl Random {
     }
 }
 
-/// A recipe under way, and the values of its steps over its frame.
-struct Growing<'a> {
+/// What is known of a step.
+trait Known: Copy {
+    /// Of a step that has only this value.
+    fn of_word(word: u64) -> Self;
+    /// Of an input that is declared with this range and has this value in the frame.
+    fn of_input(range: [u64; 2], word: u64) -> Self;
+    /// Of a step on two others, or the number of its refusal.
+    fn of_step(function: &Function, a: Self, b: Self) -> Result<Self, u64>;
+    /// A range for an input to declare.
+    fn range(random: &mut Random, kind: Kind) -> [u64; 2];
+    /// Whether it is a range of a single number. What stands on such ranges is one too, so few of
+    /// them are wanted.
+    fn is_narrow(&self, kind: Kind) -> bool;
+}
+
+/// The value over the frame.
+#[derive(Clone, Copy)]
+struct Value(u64);
+
+impl Known for Value {
+    fn of_word(word: u64) -> Value {
+        Value(word)
+    }
+
+    fn of_input(_: [u64; 2], word: u64) -> Value {
+        Value(word)
+    }
+
+    fn of_step(function: &Function, a: Value, b: Value) -> Result<Value, u64> {
+        function.value(Way::Short, a.0, b.0).map(Value)
+    }
+
+    fn range(random: &mut Random, kind: Kind) -> [u64; 2] {
+        random.range(kind)
+    }
+
+    fn is_narrow(&self, _: Kind) -> bool {
+        false
+    }
+}
+
+impl Known for Range {
+    fn of_word(word: u64) -> Range {
+        Range::of(word)
+    }
+
+    fn of_input([low, high]: [u64; 2], _: u64) -> Range {
+        Range { low, high }
+    }
+
+    fn of_step(function: &Function, a: Range, b: Range) -> Result<Range, u64> {
+        function.range(Way::Short, a, b)
+    }
+
+    fn range(random: &mut Random, kind: Kind) -> [u64; 2] {
+        random.declared_range(kind)
+    }
+
+    fn is_narrow(&self, kind: Kind) -> bool {
+        kind.compare(Way::Short, self.low, self.high).is_eq()
+    }
+}
+
+/// A recipe under way, and what is known of its steps.
+struct Growing<'a, K> {
     random: &'a mut Random,
     ordinary: bool,
     draft: Draft,
-    values: Vec<StepValue>,
+    known: Vec<(Kind, K)>,
 }
 
-/// The recipe and frame of a plan, and those of its refusing steps that came to be. After one of
-/// them values are made up.
+/// A recipe with a frame, from a plan, and those of the planned refusals that came to be.
+pub type Grow = fn(&mut Random, &Plan) -> (Draft, Vec<(usize, u64)>);
+
+/// The recipe and frame of a plan, and those of its steps that refuse the run. After one of them
+/// values are made up.
 pub fn grow(random: &mut Random, plan: &Plan) -> (Draft, Vec<(usize, u64)>) {
-    let mut growing = Growing {
+    grow_along::<Value>(random, plan)
+}
+
+/// The recipe of a plan with a frame in its ranges, and those of its steps that refuse the sheet.
+/// After one of them ranges are made up.
+pub fn grow_sheet(random: &mut Random, plan: &Plan) -> (Draft, Vec<(usize, u64)>) {
+    grow_along::<Range>(random, plan)
+}
+
+fn grow_along<K: Known>(random: &mut Random, plan: &Plan) -> (Draft, Vec<(usize, u64)>) {
+    let mut growing = Growing::<K> {
         random,
         ordinary: plan.ordinary,
         draft: Draft::default(),
-        values: Vec::new(),
+        known: Vec::new(),
     };
     let mut refusing = Vec::new();
     for place in 0..plan.steps {
@@ -155,7 +233,7 @@ pub fn grow(random: &mut Random, plan: &Plan) -> (Draft, Vec<(usize, u64)>) {
     (growing.draft, refusing)
 }
 
-impl Growing<'_> {
+impl<K: Known> Growing<'_, K> {
     fn any_kind(&mut self) -> Kind {
         match self.random.below(2) {
             0 => Kind::Double,
@@ -171,13 +249,13 @@ impl Growing<'_> {
         }
     }
 
-    fn add(&mut self, line: Line, kind: Kind, word: u64) {
+    fn add(&mut self, line: Line, kind: Kind, known: K) {
         self.draft.lines.push(line);
-        self.values.push(StepValue { kind, word });
+        self.known.push((kind, known));
     }
 
     fn add_constant(&mut self, kind: Kind, word: u64) {
-        self.add(Line::constant(kind, word), kind, word);
+        self.add(Line::constant(kind, word), kind, K::of_word(word));
     }
 
     fn add_input(&mut self) {
@@ -185,30 +263,34 @@ impl Growing<'_> {
         let (range, word) = if self.ordinary {
             (ordinary_range(kind), self.random.ordinary(kind))
         } else {
-            let range = self.random.range(kind);
+            let range = K::range(self.random, kind);
             (range, self.random.inside(kind, range))
         };
         self.draft.words.push(word);
-        self.add(Line::input(kind, range), kind, word);
+        self.add(Line::input(kind, range), kind, K::of_input(range, word));
     }
 
     /// An earlier step of this kind, one of the last few in half of the cases.
     fn operand(&mut self, kind: Kind) -> Option<usize> {
-        let recent = self.values.len().saturating_sub(4);
+        let recent = self.known.len().saturating_sub(4);
         let from = if self.random.below(2) == 0 { recent } else { 0 };
-        let fit: Vec<usize> = (from..self.values.len())
-            .filter(|&place| self.values[place].kind == kind)
+        let mut fit: Vec<usize> = (from..self.known.len())
+            .filter(|&place| self.known[place].0 == kind)
             .collect();
+        let wide: Vec<usize> = (fit.iter().copied())
+            .filter(|&place| !self.known[place].1.is_narrow(kind))
+            .collect();
+        if !wide.is_empty() && wide.len() < fit.len() && self.random.below(4) != 0 {
+            fit = wide;
+        }
         match fit.len() {
-            0 => (0..from)
-                .rev()
-                .find(|&place| self.values[place].kind == kind),
+            0 => (0..from).rev().find(|&place| self.known[place].0 == kind),
             count => Some(fit[self.random.below(count as u64) as usize]),
         }
     }
 
-    /// Some step on earlier ones, on the last one if `chain`, and what it gives.
-    fn any_step(&mut self, chain: bool) -> Option<(Line, Kind, Result<u64, u64>)> {
+    /// Some step on earlier ones, on the last one if `chain`, and what is known of it.
+    fn any_step(&mut self, chain: bool) -> Option<(Line, Kind, Result<K, u64>)> {
         let operation = &OPERATIONS[self.random.below(OPERATIONS.len() as u64) as usize];
         let kinds = operation.source.operands();
         let mut places = [0; 2];
@@ -216,19 +298,19 @@ impl Growing<'_> {
             *place = self.operand(kind)?;
         }
         if chain {
-            let last = self.values.len() - 1;
+            let last = self.known.len() - 1;
             let fits: Vec<usize> = (0..kinds.len())
-                .filter(|&i| kinds[i] == self.values[last].kind)
+                .filter(|&i| kinds[i] == self.known[last].0)
                 .collect();
             let choice = self.random.below(fits.len().max(1) as u64) as usize;
             places[*fits.get(choice)?] = last;
         }
         let [a, b] = places;
-        let at = |place: usize| self.values[place].word;
+        let at = |place: usize| self.known[place].1;
         let outcome = match &operation.source {
             Source::Input | Source::Constant => return None,
-            Source::One { function, .. } => function.value(Way::Short, at(a), 0),
-            Source::Two { function, .. } => function.value(Way::Short, at(a), at(b)),
+            Source::One { function, .. } => K::of_step(function, at(a), K::of_word(0)),
+            Source::Two { function, .. } => K::of_step(function, at(a), at(b)),
         };
         let b = if operation.uses_b() { b } else { 0 };
         Some((Line::step(operation.opcode, a, b), operation.kind, outcome))
@@ -237,8 +319,11 @@ impl Growing<'_> {
     /// A step that doesn't refuse; false where none was found.
     fn add_step(&mut self, chain: bool) -> bool {
         for _ in 0..64 {
-            if let Some((line, kind, Ok(word))) = self.any_step(chain) {
-                self.add(line, kind, word);
+            if let Some((line, kind, Ok(known))) = self.any_step(chain) {
+                if known.is_narrow(kind) && self.random.below(8) != 0 {
+                    continue;
+                }
+                self.add(line, kind, known);
                 return true;
             }
         }
@@ -249,9 +334,9 @@ impl Growing<'_> {
     fn add_refusing(&mut self, number: u64) -> bool {
         for attempt in 0..1000 {
             if let Some((line, kind, outcome)) = self.any_step(attempt % 2 == 0) {
-                if outcome == Err(number) {
+                if outcome.is_err_and(|refusal| refusal == number) {
                     let word = self.random.value(kind);
-                    self.add(line, kind, word);
+                    self.add(line, kind, K::of_word(word));
                     return true;
                 }
             }
@@ -264,8 +349,8 @@ impl Growing<'_> {
 #[cfg(test)]
 mod tests {
     use super::*;
-    use crate::reference::recipe::{run, Refusal};
-    use std::collections::BTreeSet;
+    use crate::reference::recipe::{run as run_of, sheet, Refusal};
+    use std::collections::{BTreeMap, BTreeSet};
 
     #[test]
     fn grown_recipes_run_to_their_end() {
@@ -276,7 +361,7 @@ mod tests {
             let plan = random.plan();
             let (draft, _) = grow(&mut random, &plan);
             let call = draft.call();
-            let answer = run(Way::Short, &call.text, &call.frame, call.lent);
+            let answer = run_of(Way::Short, &call.text, &call.frame, call.lent);
             assert_eq!(answer.map(|values| values.len()), Ok(plan.steps), "{call}");
             assert_eq!(draft.inputs(), plan.inputs);
             opcodes.extend(draft.lines.iter().map(|line| line.opcode));
@@ -291,51 +376,112 @@ mod tests {
         assert_eq!(input_places.len(), 128);
     }
 
+    /// How many steps stand one on another under each step, of those that are counted.
+    fn depths(draft: &Draft, counted: impl Fn(usize) -> bool) -> Vec<usize> {
+        let mut depths: Vec<usize> = Vec::new();
+        for (step, line) in draft.lines.iter().enumerate() {
+            let operation = line.operation().unwrap();
+            let below = |used: bool, place: u8| if used { depths[place as usize] + 1 } else { 0 };
+            let depth = below(operation.uses_a(), line.a).max(below(operation.uses_b(), line.b));
+            depths.push(if counted(step) { depth } else { 0 });
+        }
+        depths
+    }
+
+    const CHAIN: Plan = Plan {
+        steps: 128,
+        inputs: vec![],
+        chain: true,
+        ordinary: false,
+        refusing: vec![],
+    };
+
     #[test]
     fn chains_are_deep() {
         let mut random = Random::new(13);
         let plan = Plan {
-            steps: 128,
             inputs: vec![0],
-            chain: true,
-            ordinary: false,
-            refusing: vec![],
+            ..CHAIN
         };
         let mut deepest = 0;
         for _ in 0..200 {
             let (draft, _) = grow(&mut random, &plan);
-            // How many steps stand one on another under each step.
-            let mut depths: Vec<usize> = Vec::new();
-            for line in &draft.lines {
-                let operation = line.operation().unwrap();
-                let below =
-                    |used: bool, place: u8| if used { depths[place as usize] + 1 } else { 0 };
-                depths
-                    .push(below(operation.uses_a(), line.a).max(below(operation.uses_b(), line.b)));
-            }
+            let depths = depths(&draft, |_| true);
             deepest = deepest.max(*depths.iter().max().unwrap());
         }
         assert!(deepest > 60, "{deepest}");
+    }
+
+    /// Recipes whose sheets pass, most ranges of more than one number, and long chains of such.
+    #[test]
+    fn grown_sheets_pass_and_stay_wide() {
+        let mut random = Random::new(18);
+        let (mut opcodes, mut wide_opcodes) = (BTreeMap::new(), BTreeMap::new());
+        let mut deepest = 0;
+        for round in 0..3_000 {
+            let plan = match round % 10 {
+                0 => Plan {
+                    inputs: vec![0, 1, 2],
+                    ..CHAIN
+                },
+                _ => random.plan(),
+            };
+            let (draft, _) = grow_sheet(&mut random, &plan);
+            let call = draft.sheet_call();
+            let ranges = sheet(Way::Short, &call.text, call.lent);
+            let ranges = ranges.unwrap_or_else(|refusal| panic!("{refusal:?}\n{call}"));
+            assert_eq!(ranges.len(), plan.steps);
+            assert_eq!(draft.inputs(), plan.inputs);
+            let run = draft.call();
+            assert!(run_of(Way::Short, &run.text, &run.frame, run.lent).is_ok());
+            let is_wide = |step: usize| !ranges[step].range.is_narrow(ranges[step].kind);
+            for (step, line) in draft.lines.iter().enumerate() {
+                *opcodes.entry(line.opcode).or_insert(0u64) += 1;
+                *wide_opcodes.entry(line.opcode).or_insert(0u64) += is_wide(step) as u64;
+            }
+            deepest = deepest.max(*depths(&draft, is_wide).iter().max().unwrap());
+        }
+        assert!(deepest > 40, "{deepest}");
+        assert_eq!(opcodes.len(), OPERATIONS.len());
+        for (opcode, count) in opcodes {
+            let wide = wide_opcodes[&opcode];
+            let is_constant = opcode == 0x03 || opcode == 0x04;
+            assert!(count > 1_000, "{opcode:x}: {count}");
+            assert_eq!(
+                wide * 2 > count,
+                !is_constant,
+                "{opcode:x}: {wide} of {count}"
+            );
+        }
     }
 
     #[test]
     fn planned_refusals_come_to_be() {
         let mut random = Random::new(14);
         for number in [20, 21, 22] {
-            let mut places = BTreeSet::new();
+            let mut places = [BTreeSet::new(), BTreeSet::new()];
             for _ in 0..2_000 {
                 let plan = random.plan();
                 let plan = random.with_refusing(plan, &[number]);
                 let (draft, refusing) = grow(&mut random, &plan);
                 if let [(place, number)] = refusing[..] {
                     let call = draft.call();
-                    let answer = run(Way::Short, &call.text, &call.frame, call.lent);
+                    let answer = run_of(Way::Short, &call.text, &call.frame, call.lent);
                     assert_eq!(answer, Err(Refusal::at(number, place)), "{call}");
-                    places.insert(place);
+                    places[0].insert(place);
+                }
+                let (draft, refusing) = grow_sheet(&mut random, &plan);
+                if let [(place, number)] = refusing[..] {
+                    let call = draft.sheet_call();
+                    let answer = sheet(Way::Short, &call.text, call.lent);
+                    assert_eq!(answer, Err(Refusal::at(number, place)), "{call}");
+                    places[1].insert(place);
                 }
             }
-            assert!(places.len() > 40, "{number}: {places:?}");
-            assert_eq!((places.first(), places.last()), (Some(&1), Some(&127)));
+            for places in places {
+                assert!(places.len() > 40, "{number}: {places:?}");
+                assert_eq!((places.first(), places.last()), (Some(&1), Some(&127)));
+            }
         }
     }
 }

@@ -1,14 +1,15 @@
-//! Calls of a run that the library is tried on: recipes of all lengths with frames for them, whole
-//! ones and damaged ones.
+//! Calls of a run and of a sheet that the library is tried on: recipes of all lengths with frames
+//! for them, whole ones and damaged ones.
 //!
-//! `growing` makes valid recipes along a frame, `values` the constants, ranges and inputs in them,
-//! and `faults` damages them: one fault or two, each at the first, some or the last place.
+//! `growing` makes valid recipes along a frame or along ranges, `values` the constants, ranges and
+//! inputs in them, and `faults` damages them: one fault or two, each at the first, some or the last
+//! place.
 
 pub mod faults;
 pub mod growing;
 pub mod values;
 
-use crate::reference::recipe::{Kind, Operation};
+use crate::reference::recipe::{sheet, text, Kind, Operation};
 use std::fmt;
 
 /// The fields of a line.
@@ -105,16 +106,28 @@ impl Draft {
         (0..self.lines.len()).filter(is_input).collect()
     }
 
-    /// The call that it is, with memory for just its steps.
-    pub fn call(&self) -> Call {
-        let mut text = Vec::with_capacity(39 * self.lines.len());
+    fn text(&self) -> Vec<u8> {
+        let mut text = Vec::with_capacity(text::LINE * self.lines.len());
         for line in &self.lines {
             line.write(&mut text);
         }
+        text
+    }
+
+    /// The run that it is, with memory for just its steps.
+    pub fn call(&self) -> Call {
         Call {
-            text,
+            text: self.text(),
             frame: frame(&self.words),
             lent: self.lines.len(),
+        }
+    }
+
+    /// The sheet of its recipe, with memory for just its lines.
+    pub fn sheet_call(&self) -> SheetCall {
+        SheetCall {
+            text: self.text(),
+            lent: sheet::LINE * self.lines.len(),
         }
     }
 }
@@ -137,14 +150,29 @@ pub struct Call {
     pub lent: usize,
 }
 
+/// What a sheet is called with.
+#[derive(Clone, Debug, PartialEq, Eq)]
+pub struct SheetCall {
+    pub text: Vec<u8>,
+    /// Bytes of memory.
+    pub lent: usize,
+}
+
+fn write_text(f: &mut fmt::Formatter, text: &[u8]) -> fmt::Result {
+    let lines = text.escape_ascii().to_string().replace("\\n", "\n");
+    writeln!(f, "text, {} bytes:\n{lines}", text.len())
+}
+
+impl fmt::Display for SheetCall {
+    fn fmt(&self, f: &mut fmt::Formatter) -> fmt::Result {
+        write_text(f, &self.text)?;
+        write!(f, "{} bytes lent", self.lent)
+    }
+}
+
 impl fmt::Display for Call {
     fn fmt(&self, f: &mut fmt::Formatter) -> fmt::Result {
-        writeln!(f, "text, {} bytes:", self.text.len())?;
-        writeln!(
-            f,
-            "{}",
-            self.text.escape_ascii().to_string().replace("\\n", "\n")
-        )?;
+        write_text(f, &self.text)?;
         writeln!(
             f,
             "frame, {} bytes: {}",
@@ -176,5 +204,7 @@ mod tests {
         assert_eq!(call.text, text.as_bytes());
         assert_eq!(call.frame, b"bfe0000000000000");
         assert_eq!((call.lent, draft.inputs()), (3, vec![0]));
+        let call = draft.sheet_call();
+        assert_eq!((&call.text[..], call.lent), (text.as_bytes(), 111));
     }
 }

@@ -147,6 +147,88 @@ impl Random {
         }
     }
 
+    /// The ends of an input's range on which most steps have a range too: `range`'s in a quarter
+    /// of the cases, else moderate numbers, on both sides of zero or on one, and some subnormal.
+    pub fn declared_range(&mut self, kind: Kind) -> [u64; 2] {
+        let one = self.moderate(kind);
+        let another = match self.below(8) {
+            0 | 1 => return self.range(kind),
+            2 => {
+                let beside = rank(kind, one) + self.within(-3..4);
+                self.of_rank(kind, beside)
+            }
+            // On the same side of zero.
+            3 | 4 => match (kind, rank(kind, one) < 0) {
+                (Kind::Double, true) => self.moderate(kind) | BINARY64.sign_bit(),
+                (Kind::Double, false) => BINARY64.fabs(self.moderate(kind)),
+                (Kind::Whole, true) => -(self.moderate(kind) as i64).abs() as u64,
+                (Kind::Whole, false) => (self.moderate(kind) as i64).unsigned_abs(),
+            },
+            _ => self.moderate(kind),
+        };
+        if rank(kind, one) <= rank(kind, another) {
+            [one, another]
+        } else {
+            [another, one]
+        }
+    }
+
+    /// A number on which most steps don't refuse: a double of magnitude from 1/8 to 2^20, at times
+    /// subnormal or up to 2^63; a whole number that is an ordinary power, at times one near 2^53.
+    fn moderate(&mut self, kind: Kind) -> u64 {
+        match kind {
+            Kind::Double => match self.below(16) {
+                0 => self.subnormal(&BINARY64),
+                1 => {
+                    let field = 1023 + self.below(64);
+                    self.in_field(&BINARY64, field)
+                }
+                2..=5 => self.ordinary(kind),
+                6..=8 => (self.within(-64..65) as f64 / 8.0).to_bits(),
+                9 => self.one_of(&DOUBLES[..12]),
+                _ => {
+                    let field = 1020 + self.below(23);
+                    self.in_field(&BINARY64, field)
+                }
+            },
+            Kind::Whole => match self.below(16) {
+                0 => (self.one_of(&[1, -1]) * ((1i64 << 53) + self.within(-3..4))) as u64,
+                1 => (self.word() as i64 >> self.within(4..40)) as u64,
+                2 | 3 => self.within(-1100..1101) as u64,
+                _ => self.within(-70..71) as u64,
+            },
+        }
+    }
+
+    /// A value in a range, for a promise that holds of all of them: an end, the number beside one,
+    /// either zero, a subnormal or small number, an edge, or any.
+    pub fn declared(&mut self, kind: Kind, [p, q]: [u64; 2]) -> u64 {
+        let [low, high] = [p, q].map(|end| rank(kind, end));
+        let chosen = match self.below(16) {
+            0..=2 => return p,
+            3..=5 => return q,
+            6 => low.saturating_add(1),
+            7 => high.saturating_sub(1),
+            8 => 0,
+            9 => self.within(-1 << 52..1 << 52) >> self.below(52),
+            10 => rank(kind, self.moderate(kind)),
+            11 => rank(kind, self.value(kind)),
+            _ => self.between(low, high),
+        };
+        let chosen = if chosen < low || chosen > high {
+            self.between(low, high)
+        } else {
+            chosen
+        };
+        self.of_rank(kind, chosen)
+    }
+
+    /// A number from low to high, each equally likely.
+    fn between(&mut self, low: i64, high: i64) -> i64 {
+        let width = high.abs_diff(low);
+        low.wrapping_add_unsigned(self.below(width.saturating_add(1)))
+    }
+
     /// A value in a range: an end in half of the cases.
     pub fn inside(&mut self, kind: Kind, [p, q]: [u64; 2]) -> u64 {
         let [low, high] = [p, q].map(|end| rank(kind, end));
@@ -160,9 +242,7 @@ impl Random {
             return p;
         }
         let chosen = if chosen < low || chosen > high {
-            let width = high.abs_diff(low);
-            let beyond = self.below(width.saturating_add(1));
-            low.wrapping_add_unsigned(beyond)
+            self.between(low, high)
         } else {
             chosen
         };
@@ -265,6 +345,33 @@ mod tests {
             }
             assert!(ends > 2000 && beside > 2000, "{ends} {beside}");
             assert!(kind == Kind::Whole || nans > 2000, "{nans}");
+        }
+    }
+
+    #[test]
+    fn declared_ranges_and_values_are_what_they_say() {
+        let mut random = Random::new(19);
+        for kind in [Kind::Double, Kind::Whole] {
+            let (mut ends, mut beside, mut zeros, mut one_sided) = (0, 0, [0; 2], 0);
+            for _ in 0..20_000 {
+                let range = random.declared_range(kind);
+                assert!(!range.iter().any(|&end| kind.is_nan(end)));
+                assert!(kind.compare(Way::Exact, range[0], range[1]) != Greater);
+                one_sided += !lies(kind, range, 0) as u64;
+                let word = random.declared(kind, range);
+                assert!(lies(kind, range, word), "{word:x} in {range:x?}");
+                let ranks = range.map(|end| rank(kind, end).abs_diff(rank(kind, word)));
+                ends += ranks.contains(&0) as u64;
+                beside += ranks.contains(&1) as u64;
+                zeros[0] += (word == 0) as u64;
+                zeros[1] += (word == BINARY64.sign_bit()) as u64;
+            }
+            assert!(ends > 5000 && beside > 2000, "{ends} {beside}");
+            assert!(one_sided > 5000, "{one_sided}");
+            assert!(
+                kind == Kind::Whole || zeros.iter().all(|&n| n > 100),
+                "{zeros:?}"
+            );
         }
     }
 }

@@ -9,4 +9,5 @@ mod order;
 mod parts;
 mod recipe;
 mod rounding;
+mod sheet;
 mod short;

@@ -1,9 +1,9 @@
 //! A frame to the values of the inputs: refusals 30, 31 and 32.
 
 use super::operations::Way;
+use super::ranges::Range;
 use super::text::Step;
 use super::{is_digit, number, Refusal};
-use std::cmp::Ordering;
 
 /// Digits of an input.
 pub const DIGITS: usize = 16;
@@ -23,17 +23,13 @@ pub fn inputs(way: Way, steps: &[Step], frame: &[u8]) -> Result<Vec<u64>, Refusa
     }
     let words: Vec<u64> = frame.chunks_exact(DIGITS).map(number).collect();
     for ((place, step), &word) in declared.into_iter().zip(&words) {
-        if !lies_in_range(way, step, word) {
+        let declared = Range {
+            low: step.p,
+            high: step.q,
+        };
+        if !declared.holds(way, step.operation.kind, word) {
             return Err(Refusal::at(32, place));
         }
     }
     Ok(words)
-}
-
-/// Not a NaN and, as a number, neither below P nor above Q.
-fn lies_in_range(way: Way, step: &Step, word: u64) -> bool {
-    let kind = step.operation.kind;
-    !kind.is_nan(word)
-        && kind.compare(way, word, step.p) != Ordering::Less
-        && kind.compare(way, word, step.q) != Ordering::Greater
 }

@@ -1,16 +1,22 @@
-//! Recipes and their runs: "Recipe text" and "Turning text down" of document 01, rule by rule.
+//! Recipes, their runs and their sheets: "Recipe text" and "Turning text down" of document 01, rule
+//! by rule.
 //!
 //! `operations` is the table of steps, said once; `text` turns recipe text into steps, `frame`
-//! reads the inputs, `run` works the steps. Doubles and whole numbers travel as words of 64 bits,
+//! reads the inputs, `run` works the steps. `ranges` has the range rules, `sheet` works them step
+//! by step and writes them down. Doubles and whole numbers travel as words of 64 bits,
 //! and a step's kind tells which of the two its word is.
 
 pub mod frame;
 pub mod operations;
+pub mod ranges;
 pub mod run;
+pub mod sheet;
 pub mod text;
 
 pub use operations::{Kind, Operation, Source, Way, OPERATIONS};
+pub use ranges::Range;
 pub use run::{run, StepValue};
+pub use sheet::{sheet, StepRange};
 pub use text::Step;
 
 /// Document 01's number and place.

@@ -1,5 +1,6 @@
 //! The table of steps: what each opcode takes, gives and refuses.
 
+use super::ranges::{self, Range, Rule};
 use crate::answer::Answer;
 use crate::reference::{fmod, ldexp, order, parts, rounding, short, whole, Class, BINARY64};
 use std::cmp::Ordering;
@@ -23,12 +24,13 @@ pub enum Way {
 /// A function of one or two words; one that isn't used is 0.
 pub type Words = fn(u64, u64) -> Answer;
 
-/// How a step gets its value from those at A and B, both ways.
+/// How a step gets its value from those at A and B, both ways, and its range from theirs.
 pub struct Function {
     exact: Words,
     short: Words,
     /// The number with which the step is refused where the function is.
     refusal: u64,
+    rule: Rule,
 }
 
 impl Function {
@@ -42,6 +44,12 @@ impl Function {
             0 => Ok(answer.words[0]),
             _ => Err(self.refusal),
         }
+    }
+
+    /// The range, or the number of the step's refusal on the sheet. An operand that isn't used is
+    /// 0 to 0.
+    pub fn range(&self, way: Way, a: Range, b: Range) -> Result<Range, u64> {
+        (self.rule)(self, way, a, b)
     }
 }
 
@@ -161,17 +169,18 @@ const fn two(opcode: u8, [a, b]: [Kind; 2], kind: Kind, function: Function) -> O
     }
 }
 
-const fn refusing(refusal: u64, exact: Words, short: Words) -> Function {
+const fn refusing(refusal: u64, rule: Rule, exact: Words, short: Words) -> Function {
     Function {
         exact,
         short,
         refusal,
+        rule,
     }
 }
 
 /// A function that never refuses.
-const fn always(exact: Words, short: Words) -> Function {
-    refusing(0, exact, short)
+const fn always(rule: Rule, exact: Words, short: Words) -> Function {
+    refusing(0, rule, exact, short)
 }
 
 use Kind::{Double, Whole};
@@ -183,67 +192,67 @@ pub static OPERATIONS: [Operation; 20] = [
     input(0x02, Whole),
     constant(0x03, Double),
     constant(0x04, Whole),
-    one(0x10, Double, Double, always(
+    one(0x10, Double, Double, always(ranges::of_ends,
         |a, _| Answer::word(rounding::floor(&BINARY64, a)),
         |a, _| Answer::word(short::rounding::floor(&BINARY64, a)),
     )),
-    one(0x11, Double, Double, always(
+    one(0x11, Double, Double, always(ranges::of_ends,
         |a, _| Answer::word(rounding::ceil(&BINARY64, a)),
         |a, _| Answer::word(short::rounding::ceil(&BINARY64, a)),
     )),
-    one(0x12, Double, Double, always(
+    one(0x12, Double, Double, always(ranges::of_ends,
         |a, _| Answer::word(rounding::trunc(&BINARY64, a)),
         |a, _| Answer::word(short::rounding::trunc(&BINARY64, a)),
     )),
-    one(0x13, Double, Double, always(
+    one(0x13, Double, Double, always(ranges::of_ends,
         |a, _| Answer::word(rounding::round(&BINARY64, a)),
         |a, _| Answer::word(short::rounding::round(&BINARY64, a)),
     )),
-    one(0x14, Double, Double, always(
+    one(0x14, Double, Double, always(ranges::of_ends,
         |a, _| Answer::word(rounding::nearbyint(&BINARY64, a)),
         |a, _| Answer::word(short::rounding::nearbyint(&BINARY64, a)),
     )),
-    one(0x15, Double, Double, always(
+    one(0x15, Double, Double, always(ranges::of_fraction,
         |a, _| Answer::word(parts::modf(&BINARY64, a).words[1]),
         |a, _| Answer::word(short::parts::modf(&BINARY64, a).words[1]),
     )),
-    one(0x16, Double, Double, always(
+    one(0x16, Double, Double, always(ranges::of_magnitude,
         |a, _| Answer::word(BINARY64.fabs(a)),
         |a, _| Answer::word(BINARY64.fabs(a)),
     )),
-    one(0x17, Double, Double, always(
+    one(0x17, Double, Double, always(ranges::of_swapped_ends,
         |a, _| Answer::word(BINARY64.negate(a)),
         |a, _| Answer::word(BINARY64.negate(a)),
     )),
-    one(0x18, Double, Whole, refusing(21,
+    one(0x18, Double, Whole, refusing(21, ranges::of_ends,
         |a, _| rounding::lround(&BINARY64, a),
         |a, _| short::rounding::lround(&BINARY64, a),
     )),
-    two(0x20, [Double, Double], Double, always(
+    two(0x20, [Double, Double], Double, always(ranges::of_ends,
         |a, b| Answer::word(order::fmin(&BINARY64, a, b)),
         |a, b| Answer::word(short::order::fmin(&BINARY64, a, b)),
     )),
-    two(0x21, [Double, Double], Double, always(
+    two(0x21, [Double, Double], Double, always(ranges::of_ends,
         |a, b| Answer::word(order::fmax(&BINARY64, a, b)),
         |a, b| Answer::word(short::order::fmax(&BINARY64, a, b)),
     )),
-    two(0x22, [Double, Double], Double, refusing(20,
+    two(0x22, [Double, Double], Double, refusing(20, ranges::of_remainder,
         |a, b| fmod::fmod(&BINARY64, a, b),
         |a, b| short::fmod::fmod(&BINARY64, a, b),
     )),
-    two(0x23, [Double, Whole], Double, refusing(21,
+    two(0x23, [Double, Whole], Double, refusing(21, ranges::of_scaling,
         |a, b| ldexp::ldexp(&BINARY64, a, b as i64),
         |a, b| short::ldexp::ldexp(&BINARY64, a, b as i64),
     )),
-    two(0x30, [Whole, Whole], Whole, refusing(21,
+    two(0x30, [Whole, Whole], Whole, refusing(21, ranges::of_ends,
         |a, b| whole::sum(a as i64, b as i64),
         |a, b| whole::sum(a as i64, b as i64),
     )),
-    two(0x31, [Whole, Whole], Whole, refusing(21,
+    two(0x31, [Whole, Whole], Whole, refusing(21, ranges::of_crossed_ends,
         |a, b| whole::difference(a as i64, b as i64),
         |a, b| whole::difference(a as i64, b as i64),
     )),
-    one(0x32, Whole, Double, refusing(22,
+    one(0x32, Whole, Double, refusing(22, ranges::of_ends,
         |a, _| whole::to_double(&BINARY64, a as i64),
         |a, _| short::whole::to_double(&BINARY64, a as i64),
     )),

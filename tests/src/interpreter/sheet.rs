@@ -1,0 +1,319 @@
+//! The sheet: ranges of steps, in the machine's own arithmetic.
+
+use super::text::{parse, Step};
+use super::Refused;
+use crate::library::SheetAnswer;
+
+const LINE: usize = 37;
+
+/// `ew_sheet` again.
+pub fn sheet(text: &[u8], sheet: &mut [u8]) -> SheetAnswer {
+    let (refusal, place, steps) = match passed(text, sheet) {
+        Ok(steps) => (0, 0, steps as u64),
+        Err((number, place)) => (number, place as u64, 0),
+    };
+    SheetAnswer {
+        refusal,
+        place,
+        steps,
+    }
+}
+
+fn passed(text: &[u8], sheet: &mut [u8]) -> Result<usize, Refused> {
+    let steps = parse(text)?;
+    if sheet.len() < LINE * steps.len() {
+        return Err((40, 0));
+    }
+    let ranges = ranges(&steps)?;
+    let lines = sheet.chunks_exact_mut(LINE);
+    for (place, (line, (step, range))) in lines.zip(steps.iter().zip(&ranges)).enumerate() {
+        write_digits(&mut line[..2], place as u64);
+        write_digits(&mut line[2..4], step.kind as u64);
+        write_digits(&mut line[4..20], range.low);
+        write_digits(&mut line[20..36], range.high);
+        line[36] = b'\n';
+    }
+    Ok(steps.len())
+}
+
+fn write_digits(digits: &mut [u8], mut number: u64) {
+    for digit in digits.iter_mut().rev() {
+        *digit = b"0123456789abcdef"[(number & 15) as usize];
+        number >>= 4;
+    }
+}
+
+/// The ends, as words of the step's kind.
+#[derive(Clone, Copy)]
+struct Range {
+    low: u64,
+    high: u64,
+}
+
+impl Range {
+    fn of_doubles([low, high]: [f64; 2]) -> Range {
+        let (low, high) = (low.to_bits(), high.to_bits());
+        Range { low, high }
+    }
+
+    fn of_wholes([low, high]: [i64; 2]) -> Range {
+        let (low, high) = (low as u64, high as u64);
+        Range { low, high }
+    }
+
+    fn doubles(self) -> [f64; 2] {
+        [f64::from_bits(self.low), f64::from_bits(self.high)]
+    }
+
+    fn wholes(self) -> [i64; 2] {
+        [self.low as i64, self.high as i64]
+    }
+}
+
+fn ranges(steps: &[Step]) -> Result<Vec<Range>, Refused> {
+    let mut ranges: Vec<Range> = Vec::with_capacity(steps.len());
+    for (place, step) in steps.iter().enumerate() {
+        let range = range(step, &ranges).map_err(|number| (number, place))?;
+        ranges.push(range);
+    }
+    Ok(ranges)
+}
+
+fn range(step: &Step, earlier: &[Range]) -> Result<Range, u64> {
+    let doubles = |place: usize| earlier[place].doubles();
+    let wholes = |place: usize| earlier[place].wholes();
+    let (a, b) = (step.a, step.b);
+    let each_end = |function: fn(f64) -> f64| Ok(Range::of_doubles(doubles(a).map(function)));
+    match step.opcode {
+        0x01 | 0x02 => {
+            let (low, high) = (step.p, step.q);
+            Ok(Range { low, high })
+        }
+        0x03 | 0x04 => {
+            let (low, high) = (step.p, step.p);
+            Ok(Range { low, high })
+        }
+        0x10 => each_end(f64::floor),
+        0x11 => each_end(f64::ceil),
+        0x12 => each_end(f64::trunc),
+        0x13 => each_end(f64::round),
+        0x14 => each_end(f64::round_ties_even),
+        0x15 => Ok(Range::of_doubles(fraction(doubles(a)))),
+        0x16 => Ok(Range::of_doubles(fabs(doubles(a)))),
+        0x17 => {
+            let [low, high] = doubles(a);
+            Ok(Range::of_doubles([-high, -low]))
+        }
+        0x18 => {
+            let [low, high] = doubles(a);
+            Ok(Range::of_wholes([lround(low)?, lround(high)?]))
+        }
+        0x20 => {
+            let ([a_low, a_high], [b_low, b_high]) = (doubles(a), doubles(b));
+            Ok(Range::of_doubles([
+                fmin(a_low, b_low),
+                fmin(a_high, b_high),
+            ]))
+        }
+        0x21 => {
+            let ([a_low, a_high], [b_low, b_high]) = (doubles(a), doubles(b));
+            Ok(Range::of_doubles([
+                fmax(a_low, b_low),
+                fmax(a_high, b_high),
+            ]))
+        }
+        0x22 => Ok(Range::of_doubles(fmod(doubles(a), doubles(b))?)),
+        0x23 => Ok(Range::of_doubles(ldexp(doubles(a), wholes(b))?)),
+        0x30 => {
+            let ([a_low, a_high], [b_low, b_high]) = (wholes(a), wholes(b));
+            let low = a_low.checked_add(b_low).ok_or(21u64)?;
+            let high = a_high.checked_add(b_high).ok_or(21u64)?;
+            Ok(Range::of_wholes([low, high]))
+        }
+        0x31 => {
+            let ([a_low, a_high], [b_low, b_high]) = (wholes(a), wholes(b));
+            let low = a_low.checked_sub(b_high).ok_or(21u64)?;
+            let high = a_high.checked_sub(b_low).ok_or(21u64)?;
+            Ok(Range::of_wholes([low, high]))
+        }
+        _ => {
+            let [low, high] = wholes(a);
+            Ok(Range::of_doubles([to_double(low)?, to_double(high)?]))
+        }
+    }
+}
+
+/// The largest fraction, 1 - 2^-53.
+const LARGEST_FRACTION: f64 = 1.0 - f64::EPSILON / 2.0;
+
+fn fraction([low, high]: [f64; 2]) -> [f64; 2] {
+    let low = if low >= 0.0 {
+        0.0
+    } else {
+        low.max(-LARGEST_FRACTION)
+    };
+    let high = if high <= 0.0 {
+        0.0
+    } else {
+        high.min(LARGEST_FRACTION)
+    };
+    [low, high]
+}
+
+fn fabs([low, high]: [f64; 2]) -> [f64; 2] {
+    if low >= 0.0 {
+        [low.abs(), high.abs()]
+    } else if high <= 0.0 {
+        [high.abs(), low.abs()]
+    } else {
+        [0.0, fmax(low.abs(), high.abs())]
+    }
+}
+
+fn lround(x: f64) -> Result<i64, u64> {
+    const LIMIT: f64 = (1u64 << 63) as f64;
+    let rounded = x.round();
+    if (-LIMIT..LIMIT).contains(&rounded) {
+        Ok(rounded as i64)
+    } else {
+        Err(21)
+    }
+}
+
+/// Of equal operands the first, unlike `f64::min`.
+fn fmin(x: f64, y: f64) -> f64 {
+    if x <= y {
+        x
+    } else {
+        y
+    }
+}
+
+fn fmax(x: f64, y: f64) -> f64 {
+    if x >= y {
+        x
+    } else {
+        y
+    }
+}
+
+fn fmod([a_low, a_high]: [f64; 2], [b_low, b_high]: [f64; 2]) -> Result<[f64; 2], u64> {
+    if a_low.is_infinite() || a_high.is_infinite() || b_low <= 0.0 && b_high >= 0.0 {
+        return Err(20);
+    }
+    let m = fmax(b_low.abs(), b_high.abs());
+    let low = if a_low >= 0.0 {
+        0.0
+    } else {
+        -fmin(a_low.abs(), m)
+    };
+    let high = if a_high <= 0.0 { 0.0 } else { fmin(a_high, m) };
+    Ok([low, high])
+}
+
+fn ldexp([a_low, a_high]: [f64; 2], [b_low, b_high]: [i64; 2]) -> Result<[f64; 2], u64> {
+    if a_low.is_infinite() || a_high.is_infinite() {
+        return Err(21);
+    }
+    let low = scaled(a_low, if a_low < 0.0 { b_high } else { b_low });
+    let high = scaled(a_high, if a_high > 0.0 { b_high } else { b_low });
+    if low.is_infinite() || high.is_infinite() {
+        return Err(21);
+    }
+    Ok([low, high])
+}
+
+/// x·2^n rounded once: down by multiplications that are exact, so long as the last leaves more than
+/// 53 places to go.
+fn scaled(x: f64, n: i64) -> f64 {
+    const UP: f64 = power_of_two(1023);
+    const DOWN: f64 = power_of_two(53 - 1022);
+    let (mut x, mut n) = (x, n);
+    if n > 1023 {
+        (x, n) = (x * UP, n - 1023);
+        if n > 1023 {
+            (x, n) = (x * UP, (n - 1023).min(1023));
+        }
+    } else if n < -1022 {
+        (x, n) = (x * DOWN, n + 1022 - 53);
+        if n < -1022 {
+            (x, n) = (x * DOWN, (n + 1022 - 53).max(-1022));
+        }
+    }
+    x * power_of_two(n)
+}
+
+/// 2^n, for n from -1022 to 1023.
+const fn power_of_two(n: i64) -> f64 {
+    f64::from_bits(((n + 1023) as u64) << 52)
+}
+
+fn to_double(n: i64) -> Result<f64, u64> {
+    if n.unsigned_abs() > 1 << 53 {
+        return Err(22);
+    }
+    Ok(n as f64)
+}
+
+#[cfg(test)]
+mod tests {
+    use super::*;
+    use crate::patterns::Random;
+    use crate::recipes::faults::{damaged_sheet, SHEET_REFUSALS};
+    use crate::recipes::growing::grow;
+    use crate::recipes::SheetCall;
+    use crate::reference::recipe::{self, Way};
+
+    fn check(call: &SheetCall) {
+        let mut memory = vec![7; call.lent];
+        let answer = sheet(&call.text, &mut memory);
+        let mut expected_memory = vec![7; call.lent];
+        let expected = match recipe::sheet(Way::Short, &call.text, call.lent) {
+            Err(refusal) => SheetAnswer::from(refusal),
+            Ok(ranges) => {
+                let lines = recipe::sheet::bytes(&ranges);
+                expected_memory[..lines.len()].copy_from_slice(&lines);
+                SheetAnswer::passed(ranges.len())
+            }
+        };
+        assert_eq!((answer, memory), (expected, expected_memory), "{call}");
+    }
+
+    /// A race against wrong answers would say nothing.
+    #[test]
+    fn gives_the_reference_s_answers() {
+        let mut random = Random::new(32);
+        for _ in 0..40 {
+            for first in SHEET_REFUSALS {
+                for second in SHEET_REFUSALS {
+                    for faults in [&[][..], &[first], &[first, second]] {
+                        check(&damaged_sheet(&mut random, faults).0);
+                    }
+                }
+                let plan = random.plan();
+                check(&grow(&mut random, &plan).0.sheet_call());
+            }
+        }
+    }
+
+    #[test]
+    fn scales_as_the_reference_does() {
+        use crate::reference::{short, Class, BINARY64};
+        let mut random = Random::new(33);
+        for _ in 0..400_000 {
+            let x = random.pattern(&BINARY64);
+            let n = random.within(-2300..2301);
+            let expected = short::ldexp::ldexp(&BINARY64, x, n).words[0];
+            if BINARY64.classify(x) != Class::Nan {
+                let answer = scaled(f64::from_bits(x), n).to_bits();
+                assert_eq!(answer, expected, "{x:x} {n}");
+            }
+        }
+        for n in [i64::MIN, i64::MIN + 1, i64::MAX] {
+            for x in [1.0, -f64::MAX, f64::from_bits(1), 0.0, -0.0] {
+                let expected = short::ldexp::ldexp(&BINARY64, x.to_bits(), n).words[0];
+                assert_eq!(scaled(x, n).to_bits(), expected, "{x:e} {n}");
+            }
+        }
+    }
+}

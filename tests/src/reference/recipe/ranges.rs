@@ -1,0 +1,167 @@
+//! Ranges: the rules that give a step's from those of its operands, and when they refuse it.
+
+use super::operations::{Function, Kind, Way};
+use crate::reference::natural::Natural;
+use crate::reference::{order, short, Class, BINARY64};
+use std::cmp::Ordering;
+use std::sync::LazyLock;
+
+/// From one number to another, as words of the step's kind.
+#[derive(Clone, Copy, Debug, PartialEq, Eq)]
+pub struct Range {
+    pub low: u64,
+    pub high: u64,
+}
+
+impl Range {
+    /// One number alone.
+    pub fn of(word: u64) -> Range {
+        let (low, high) = (word, word);
+        Range { low, high }
+    }
+
+    /// Whether a word is not a NaN and, as a number, neither below low nor above high.
+    pub fn holds(&self, way: Way, kind: Kind, word: u64) -> bool {
+        !kind.is_nan(word)
+            && kind.compare(way, word, self.low) != Ordering::Less
+            && kind.compare(way, word, self.high) != Ordering::Greater
+    }
+}
+
+/// A range rule of document 01: the range of a step whose operands have the ranges a and b, or the
+/// number of its refusal.
+pub type Rule = fn(&Function, Way, Range, Range) -> Result<Range, u64>;
+
+const PLUS_ZERO: u64 = 0;
+
+/// 1 and 1 - 2^-53, which is the largest fraction there is.
+static ONE_AND_BELOW: LazyLock<[u64; 2]> = LazyLock::new(|| {
+    let one = Natural::power_of_two(BINARY64.one_log2());
+    let below_one = &one - &Natural::power_of_two(BINARY64.one_log2() - 53);
+    [one, below_one].map(|units| BINARY64.encode(&units))
+});
+
+/// The function of each end: of lows, of highs.
+pub fn of_ends(function: &Function, way: Way, a: Range, b: Range) -> Result<Range, u64> {
+    Ok(Range {
+        low: function.value(way, a.low, b.low)?,
+        high: function.value(way, a.high, b.high)?,
+    })
+}
+
+/// "low-high, high-low".
+pub fn of_crossed_ends(function: &Function, way: Way, a: Range, b: Range) -> Result<Range, u64> {
+    Ok(Range {
+        low: function.value(way, a.low, b.high)?,
+        high: function.value(way, a.high, b.low)?,
+    })
+}
+
+/// "negated high, negated low".
+pub fn of_swapped_ends(function: &Function, way: Way, a: Range, _: Range) -> Result<Range, u64> {
+    Ok(Range {
+        low: function.value(way, a.high, 0)?,
+        high: function.value(way, a.low, 0)?,
+    })
+}
+
+/// "low: +0 if a.low ≥ 0; a.low if above -1; else -(1-2^-53). High: +0 if a.high ≤ 0; a.high if
+/// below 1; else 1-2^-53".
+pub fn of_fraction(_: &Function, way: Way, a: Range, _: Range) -> Result<Range, u64> {
+    let [one, below_one] = *ONE_AND_BELOW;
+    let [minus_one, above_minus_one] = [one, below_one].map(|x| BINARY64.negate(x));
+    Ok(Range {
+        low: match (against_zero(way, a.low), compare(way, a.low, minus_one)) {
+            (Ordering::Greater | Ordering::Equal, _) => PLUS_ZERO,
+            (_, Ordering::Greater) => a.low,
+            _ => above_minus_one,
+        },
+        high: match (against_zero(way, a.high), compare(way, a.high, one)) {
+            (Ordering::Less | Ordering::Equal, _) => PLUS_ZERO,
+            (_, Ordering::Less) => a.high,
+            _ => below_one,
+        },
+    })
+}
+
+/// "a.low ≥ 0: fabs of low, of high; else a.high ≤ 0: fabs of high, of low; else +0, fmax(fabs low,
+/// fabs high)".
+pub fn of_magnitude(function: &Function, way: Way, a: Range, _: Range) -> Result<Range, u64> {
+    let fabs_low = function.value(way, a.low, 0)?;
+    let fabs_high = function.value(way, a.high, 0)?;
+    let (low, high) = if against_zero(way, a.low) != Ordering::Less {
+        (fabs_low, fabs_high)
+    } else if against_zero(way, a.high) != Ordering::Greater {
+        (fabs_high, fabs_low)
+    } else {
+        (PLUS_ZERO, fmax(way, fabs_low, fabs_high))
+    };
+    Ok(Range { low, high })
+}
+
+/// "M = fmax(fabs b.low, fabs b.high). Low: +0 if a.low ≥ 0, else -fmin(fabs a.low, M). High: +0 if
+/// a.high ≤ 0, else fmin(a.high, M)". Refusal 20: "an infinite end of a, or b holds zero".
+pub fn of_remainder(_: &Function, way: Way, a: Range, b: Range) -> Result<Range, u64> {
+    if has_infinite_end(a) || b.holds(way, Kind::Double, PLUS_ZERO) {
+        return Err(20);
+    }
+    let m = fmax(way, BINARY64.fabs(b.low), BINARY64.fabs(b.high));
+    Ok(Range {
+        low: match against_zero(way, a.low) {
+            Ordering::Greater | Ordering::Equal => PLUS_ZERO,
+            Ordering::Less => BINARY64.negate(fmin(way, BINARY64.fabs(a.low), m)),
+        },
+        high: match against_zero(way, a.high) {
+            Ordering::Less | Ordering::Equal => PLUS_ZERO,
+            Ordering::Greater => fmin(way, a.high, m),
+        },
+    })
+}
+
+/// "low: a.low by b.high if a.low < 0, else by b.low. High: a.high by b.high if a.high > 0, else by
+/// b.low". Refusal 21: "infinite end of a, or either end's scaling overflows".
+pub fn of_scaling(function: &Function, way: Way, a: Range, b: Range) -> Result<Range, u64> {
+    if has_infinite_end(a) {
+        return Err(21);
+    }
+    let by_low = match against_zero(way, a.low) {
+        Ordering::Less => b.high,
+        Ordering::Greater | Ordering::Equal => b.low,
+    };
+    let by_high = match against_zero(way, a.high) {
+        Ordering::Greater => b.high,
+        Ordering::Less | Ordering::Equal => b.low,
+    };
+    Ok(Range {
+        low: function.value(way, a.low, by_low)?,
+        high: function.value(way, a.high, by_high)?,
+    })
+}
+
+fn compare(way: Way, x: u64, y: u64) -> Ordering {
+    Kind::Double.compare(way, x, y)
+}
+
+fn against_zero(way: Way, x: u64) -> Ordering {
+    compare(way, x, PLUS_ZERO)
+}
+
+fn has_infinite_end(range: Range) -> bool {
+    [range.low, range.high]
+        .into_iter()
+        .any(|end| BINARY64.classify(end) == Class::Infinite)
+}
+
+fn fmin(way: Way, x: u64, y: u64) -> u64 {
+    match way {
+        Way::Exact => order::fmin(&BINARY64, x, y),
+        Way::Short => short::order::fmin(&BINARY64, x, y),
+    }
+}
+
+fn fmax(way: Way, x: u64, y: u64) -> u64 {
+    match way {
+        Way::Exact => order::fmax(&BINARY64, x, y),
+        Way::Short => short::order::fmax(&BINARY64, x, y),
+    }
+}

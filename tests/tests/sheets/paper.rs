@@ -1,0 +1,151 @@
+//! What document 01 prints.
+
+use crate::{check, filled, BEFORE};
+use estrenwind_tests::library::SheetAnswer;
+use estrenwind_tests::recipes::SheetCall;
+use estrenwind_tests::reference::recipe::Way;
+
+const EXAMPLE: &str = "\
+010000c004000000000000401d000000000000
+10000000000000000000000000000000000000
+18010000000000000000000000000000000000
+";
+
+const EXAMPLE_SHEET: &str = "\
+0001c004000000000000401d000000000000
+0101c008000000000000401c000000000000
+0202fffffffffffffffd0000000000000007
+";
+
+/// The sheet of a text, with memory for just its lines.
+fn call(text: &str) -> SheetCall {
+    SheetCall {
+        text: text.into(),
+        lent: text.len() / 39 * 37,
+    }
+}
+
+fn refused(refusal: u64, place: u64) -> SheetAnswer {
+    SheetAnswer {
+        refusal,
+        place,
+        steps: 0,
+    }
+}
+
+fn passed(steps: usize) -> SheetAnswer {
+    SheetAnswer::passed(steps)
+}
+
+#[test]
+fn the_example_s_sheet_is_as_printed() {
+    for more in [0, 1, 36, 37, 1000] {
+        let mut call = call(EXAMPLE);
+        call.lent += more;
+        let outcome = check(Way::Exact, &call);
+        assert_eq!(outcome.answer, passed(3));
+        let end = BEFORE + EXAMPLE_SHEET.len();
+        assert_eq!(outcome.memory[BEFORE..end], *EXAMPLE_SHEET.as_bytes());
+        assert_eq!(outcome.memory[..BEFORE], filled(call.lent)[..BEFORE]);
+        assert_eq!(outcome.memory[end..], filled(call.lent)[end..]);
+    }
+}
+
+/// Each row breaks one rule of "Turning text down" and keeps to all before it, many of them also
+/// break a later one. The answers are read off document 01, not off the reference.
+#[test]
+#[rustfmt::skip]
+fn what_is_turned_down_and_with_which_number() {
+    const FULL: &str = "010000fff00000000000007ff0000000000000\n"; // any double
+    const WHOLE: &str = "02000080000000000000007fffffffffffffff\n"; // any whole number
+    const SMALL: &str = "010000bff00000000000003ff0000000000000\n"; // -1 to 1
+    const NEXT: &str = "10000000000000000000000000000000000000\n"; // floor of step 0
+    let full16 = FULL.repeat(16);
+    for (text, answer) in [
+        ("", refused(10, 0)),
+        ("\n", refused(10, 0)),
+        (&FULL[..38], refused(10, 0)),
+        (&format!("{FULL}\n"), refused(10, 0)),
+        (&NEXT.repeat(129), refused(10, 0)),
+        (&NEXT.repeat(128), refused(14, 0)),                                       // floor of itself
+        (&format!("{FULL}{}", NEXT.repeat(127)), passed(128)),
+        ("0A0000fff00000000000007ff0000000000000\n", refused(11, 0)),              // 11 before 12
+        ("010000fff00000000000007ff0000000000000 ", refused(11, 0)),
+        ("010000fff00000000000007ff000000000000\n\n", refused(11, 0)),
+        ("00000000000000000000000000000000000000\n", refused(12, 0)),
+        ("05ff0000000000000000000000000000000000\n", refused(12, 0)),              // 12 before 13, 14
+        ("19000000000000000000000000000000000000\n", refused(12, 0)),
+        ("24000000000000000000000000000000000000\n", refused(12, 0)),
+        ("33000000000000000000000000000000000000\n", refused(12, 0)),
+        ("10ff0000000000000000010000000000000000\n", refused(13, 0)),              // 13 before 14
+        ("10000100000000000000000000000000000000\n", refused(13, 0)),
+        ("0101007ff80000000000000000000000000000\n", refused(13, 0)),              // 13 before 16
+        ("0300003ff00000000000003ff0000000000000\n", refused(13, 0)),
+        (&format!("{WHOLE}{FULL}200002{:032}\n", 0), refused(14, 2)),              // A whole, B itself: 14 before 15
+        (&format!("{WHOLE}{FULL}200200{:032}\n", 0), refused(14, 2)),
+        (&format!("{WHOLE}{FULL}2001ff{:032}\n", 0), refused(14, 2)),
+        (&format!("{WHOLE}{FULL}200100{:032}\n", 0), refused(15, 2)),
+        (&format!("{WHOLE}{FULL}230001{:032}\n", 0), refused(15, 2)),              // ldexp with A and B exchanged
+        (&format!("{WHOLE}{NEXT}"), refused(15, 1)),
+        (&format!("{FULL}3200{:034}\n", 0), refused(15, 1)),
+        ("0100000000000000000000bff0000000000000\n", refused(16, 0)),              // 0 to -1
+        ("010000bff0000000000000c000000000000000\n", refused(16, 0)),              // -1 to -2
+        ("010000c000000000000000bff0000000000000\n", passed(1)),                   // -2 to -1
+        ("01000000000000000000008000000000000000\n", passed(1)),                   // +0 to -0, equal
+        ("010000fff00000000000007ff0000000000001\n", refused(16, 0)),
+        ("010000fff80000000000007ff0000000000000\n", refused(16, 0)),
+        ("0300007ff00000000000010000000000000000\n", refused(16, 0)),
+        ("0400007ff00000000000010000000000000000\n", passed(1)),
+        ("0200000000000000000000ffffffffffffffff\n", refused(16, 0)),              // 0 to -1
+        ("020000ffffffffffffffff0000000000000000\n", passed(1)),                   // -1 to 0
+        ("0200007ff800000000000080000000000000ff\n", refused(16, 0)),
+        (&full16, passed(16)),
+        (&format!("{full16}{FULL}"), refused(17, 16)),
+        (&format!("{full16}0100003ff00000000000000000000000000000\n"), refused(16, 16)), // 16 before 17
+        (&format!("{full16}{FULL}zz{:036}\n", 0), refused(17, 16)),                // an earlier line before 11
+        (&format!("{full16}{NEXT}{WHOLE}"), refused(17, 17)),
+        (&format!("{FULL}1800{:034}\n{}", 0, "z".repeat(39)), refused(11, 2)),     // 11 to 17 of all lines before 20 to 22
+        (&format!("{FULL}1800{:034}\n{full16}", 0), refused(17, 17)),
+        (&format!("{FULL}220000{:032}\n", 0), refused(20, 1)),
+        (&format!("{SMALL}220000{:032}\n", 0), refused(20, 1)),                    // b holds zero between its ends
+        (&format!("{FULL}1800{:034}\n220000{:032}\n", 0, 0), refused(21, 1)),      // 21 at an earlier step
+        (&format!("{FULL}220000{:032}\n1800{:034}\n", 0, 0), refused(20, 1)),      // 20 at one
+        (&format!("{WHOLE}3200{:034}\n300000{:032}\n", 0, 0), refused(22, 1)),     // 22 at one
+        (&format!("{WHOLE}300000{:032}\n3200{:034}\n", 0, 0), refused(21, 1)),
+        (&format!("{FULL}{WHOLE}230001{:032}\n", 0), refused(21, 2)),
+        (&format!("{FULL}0400000000000000000000{:016}\n230001{:032}\n", 0, 0), refused(21, 2)), // by 2^0 nothing overflows, infinity is reached
+        (&format!("{SMALL}0400000000000000000000{:016}\n230001{:032}\n", 0, 0), passed(3)),
+        (&format!("{SMALL}1800{:034}\n3001010000000000000000{:016}\n", 0, 0), passed(3)),
+    ] {
+        let outcome = check(Way::Exact, &call(text));
+        assert_eq!(outcome.answer, answer, "{text}");
+    }
+}
+
+/// "Order: 10; then line by line 11 to 17; then 40; .. then steps in order, 20 to 22." "The sheet
+/// needs 37·n bytes for n steps".
+#[test]
+fn too_short_a_memory_comes_after_the_text_and_before_the_steps() {
+    let lent = |lent: usize, text: &str| {
+        let text = text.into();
+        check(Way::Exact, &SheetCall { text, lent }).answer
+    };
+    let refusing = EXAMPLE.replace("401d000000000000", "7ff0000000000000");
+    for short in [0, 1, 36, 37, 74, 110] {
+        assert_eq!(lent(short, EXAMPLE), refused(40, 0));
+        assert_eq!(lent(short, &refusing), refused(40, 0));
+        assert_eq!(lent(short, &EXAMPLE[1..]), refused(10, 0));
+        assert_eq!(
+            lent(short, &EXAMPLE.replace("1801", "1803")),
+            refused(14, 2)
+        );
+        assert_eq!(
+            lent(short, &EXAMPLE.replace("1801", "180g")),
+            refused(11, 2)
+        );
+    }
+    for enough in [111, 112, 117, 5000] {
+        assert_eq!(lent(enough, EXAMPLE), passed(3));
+        assert_eq!(lent(enough, &refusing), refused(21, 2));
+    }
+}

@@ -1,0 +1,383 @@
+//! What a passed sheet promises: every run over a frame of inputs in their declared ranges completes,
+//! and each of its words lies in the range that the sheet shows for its step. Both are the
+//! library's; the reference takes no part but in the choice of recipes.
+
+use crate::on_all_cores;
+use estrenwind_tests::library::{self, RunAnswer, SheetAnswer};
+use estrenwind_tests::patterns::Random;
+use estrenwind_tests::recipes::growing::{grow, grow_sheet};
+use estrenwind_tests::recipes::{frame, Draft, Line};
+use estrenwind_tests::reference::recipe::{Kind, Operation, OPERATIONS};
+use std::collections::BTreeMap;
+
+const SEEDS: u64 = 2_400;
+
+/// Frames that are drawn for a recipe with inputs.
+const FRAMES: usize = 20;
+
+/// A line of a sheet, as the library wrote it.
+struct Shown {
+    kind: Kind,
+    low: u64,
+    high: u64,
+}
+
+/// The lines of a sheet; stops where it isn't one.
+fn read(sheet: &[u8]) -> Vec<Shown> {
+    let sheet = std::str::from_utf8(sheet).expect("a sheet is text");
+    let line = |(step, line): (usize, &str)| {
+        let number = |from: usize, to: usize| {
+            u64::from_str_radix(&line[from..to], 16).expect("a sheet is digits")
+        };
+        assert_eq!((line.len(), number(0, 2)), (36, step as u64), "{sheet}");
+        let kind = match number(2, 4) {
+            1 => Kind::Double,
+            2 => Kind::Whole,
+            kind => panic!("kind {kind}\n{sheet}"),
+        };
+        let (low, high) = (number(4, 20), number(20, 36));
+        Shown { kind, low, high }
+    };
+    sheet.lines().enumerate().map(line).collect()
+}
+
+/// Where a word lies, seen from a range.
+#[derive(Clone, Copy, Debug, PartialEq, Eq, PartialOrd, Ord)]
+enum Lie {
+    /// The range's only number.
+    Alone,
+    Low,
+    High,
+    /// Neither the lowest nor the highest of more than one.
+    Inside,
+    Outside,
+}
+
+/// By the language's own comparison, for which the zeros are equal and a NaN is nowhere.
+fn lie<T: PartialOrd>(low: T, word: T, high: T) -> Lie {
+    if !(low <= word && word <= high) {
+        Lie::Outside
+    } else if low == high {
+        Lie::Alone
+    } else if word == low {
+        Lie::Low
+    } else if word == high {
+        Lie::High
+    } else {
+        Lie::Inside
+    }
+}
+
+impl Shown {
+    fn lie(&self, word: u64) -> Lie {
+        let (low, high) = (self.low, self.high);
+        match self.kind {
+            Kind::Double => {
+                let [low, word, high] = [low, word, high].map(f64::from_bits);
+                lie(low, word, high)
+            }
+            Kind::Whole => lie(low as i64, word as i64, high as i64),
+        }
+    }
+}
+
+/// What sort of an input was drawn.
+#[derive(Clone, Copy, Debug, PartialEq, Eq, PartialOrd, Ord)]
+enum Sort {
+    Low,
+    High,
+    BesideLow,
+    BesideHigh,
+    PlusZero,
+    MinusZero,
+    Subnormal,
+    Infinite,
+    Between,
+}
+
+/// An input may be of more than one sort, if the range is small.
+fn sorts(kind: Kind, [p, q]: [u64; 2], word: u64) -> Vec<Sort> {
+    let (ends, zero, subnormal, infinite) = match kind {
+        Kind::Double => {
+            let [low, word, high] = [p, word, q].map(f64::from_bits);
+            let beside = [low.next_up() == word, high.next_down() == word];
+            let ends = [low == word, high == word, beside[0], beside[1]];
+            (ends, word == 0.0, word.is_subnormal(), word.is_infinite())
+        }
+        Kind::Whole => {
+            let [low, word, high] = [p, word, q].map(|end| end as i64);
+            let beside = [low.checked_add(1), high.checked_sub(1)].map(|n| n == Some(word));
+            let ends = [low == word, high == word, beside[0], beside[1]];
+            (ends, false, false, false)
+        }
+    };
+    let mut sorts = Vec::new();
+    for (held, sort) in [
+        (ends[0], Sort::Low),
+        (ends[1], Sort::High),
+        (ends[2], Sort::BesideLow),
+        (ends[3], Sort::BesideHigh),
+        (zero && word == 0, Sort::PlusZero),
+        (zero && word != 0, Sort::MinusZero),
+        (subnormal, Sort::Subnormal),
+        (infinite, Sort::Infinite),
+        (ends == [false; 4], Sort::Between),
+    ] {
+        if held {
+            sorts.push(sort);
+        }
+    }
+    sorts
+}
+
+const SORTS: [Sort; 9] = [
+    Sort::Low,
+    Sort::High,
+    Sort::BesideLow,
+    Sort::BesideHigh,
+    Sort::PlusZero,
+    Sort::MinusZero,
+    Sort::Subnormal,
+    Sort::Infinite,
+    Sort::Between,
+];
+
+#[derive(Default)]
+struct Counts {
+    passed: u64,
+    refused: u64,
+    runs: u64,
+    prefixes: u64,
+    words: BTreeMap<(u8, Lie), u64>,
+    inputs: BTreeMap<(u8, Sort), u64>,
+}
+
+impl Counts {
+    fn join(&mut self, other: Counts) {
+        self.passed += other.passed;
+        self.refused += other.refused;
+        self.runs += other.runs;
+        self.prefixes += other.prefixes;
+        for (lie, count) in other.words {
+            *self.words.entry(lie).or_default() += count;
+        }
+        for (sort, count) in other.inputs {
+            *self.inputs.entry(sort).or_default() += count;
+        }
+    }
+
+    fn words(&self, opcode: u8, lie: Lie) -> u64 {
+        self.words.get(&(opcode, lie)).copied().unwrap_or(0)
+    }
+
+    fn inputs(&self, opcode: u8, sort: Sort) -> u64 {
+        self.inputs.get(&(opcode, sort)).copied().unwrap_or(0)
+    }
+}
+
+/// The recipes of a seed: grown along ranges, with and without a step that the sheet is to refuse;
+/// grown along a frame, where it may; and each step on inputs.
+fn recipes(random: &mut Random) -> Vec<Draft> {
+    let mut drafts = Vec::new();
+    for _ in 0..20 {
+        let plan = random.plan();
+        drafts.push(grow_sheet(random, &plan).0);
+    }
+    for number in [20, 21, 22] {
+        let plan = random.plan();
+        let plan = random.with_refusing(plan, &[number]);
+        drafts.push(grow_sheet(random, &plan).0);
+    }
+    for _ in 0..4 {
+        let plan = random.plan();
+        drafts.push(grow(random, &plan).0);
+    }
+    let steps = OPERATIONS.iter().filter(|operation| operation.uses_a());
+    drafts.extend(steps.map(|operation| on_inputs(random, operation)));
+    drafts
+}
+
+/// The step on inputs of moderate ranges.
+fn on_inputs(random: &mut Random, operation: &Operation) -> Draft {
+    let kinds = operation.source.operands();
+    let input = |&kind| Line::input(kind, random.declared_range(kind));
+    let mut lines: Vec<Line> = kinds.iter().map(input).collect();
+    lines.push(Line::step(operation.opcode, 0, kinds.len() - 1));
+    let words = lines[..kinds.len()].iter().map(|line| line.p).collect();
+    Draft { lines, words }
+}
+
+/// The frames of a recipe, no two the same: each input at its low end, each at its high one, and
+/// drawn ones. Without inputs there is one frame.
+fn frames(random: &mut Random, draft: &Draft) -> Vec<Vec<u64>> {
+    let inputs: Vec<Line> = (draft.inputs().into_iter())
+        .map(|place| draft.lines[place])
+        .collect();
+    if inputs.is_empty() {
+        return vec![vec![]];
+    }
+    let mut frames: Vec<Vec<u64>> = vec![
+        inputs.iter().map(|line| line.p).collect(),
+        inputs.iter().map(|line| line.q).collect(),
+    ];
+    frames.resize_with(FRAMES, || {
+        let word = |line: &Line| random.declared(line.kind().expect("an input"), [line.p, line.q]);
+        inputs.iter().map(word).collect()
+    });
+    frames.sort_unstable();
+    frames.dedup();
+    frames
+}
+
+/// A recipe's sheet, and its runs if it passes: what breaks the promise, if anything does.
+fn check(random: &mut Random, draft: &Draft, counts: &mut Counts) -> Option<String> {
+    let call = draft.sheet_call();
+    let mut sheet = vec![0; call.lent];
+    let answer = library::sheet(&call.text, &mut sheet);
+    if answer.refusal != 0 {
+        counts.refused += 1;
+        return None;
+    }
+    counts.passed += 1;
+    assert_eq!(answer, SheetAnswer::passed(draft.lines.len()), "{call}");
+    let shown = read(&sheet);
+    let text = &call.text;
+    let told = |words: &[u64], what: String| {
+        let frame = frame(words);
+        let sheet = String::from_utf8_lossy(&sheet);
+        Some(format!(
+            "{what}\n{call}\nframe {}\nsheet\n{sheet}",
+            frame.escape_ascii()
+        ))
+    };
+    let mut words = vec![0; shown.len()];
+    for (number, inputs) in frames(random, draft).into_iter().enumerate() {
+        counts.runs += 1;
+        let answer = library::run(text, &frame(&inputs), &mut words);
+        let expected = RunAnswer {
+            refusal: 0,
+            place: 0,
+            kind: shown[shown.len() - 1].kind as u64,
+            word: words[shown.len() - 1],
+        };
+        if answer != expected {
+            return told(&inputs, format!("{answer}\nexpected {expected}"));
+        }
+        for (step, (&word, shown)) in words.iter().zip(&shown).enumerate() {
+            let lie = shown.lie(word);
+            if lie == Lie::Outside {
+                return told(&inputs, format!("step {step}: {word:016x} is outside"));
+            }
+            let opcode = draft.lines[step].opcode;
+            *counts.words.entry((opcode, lie)).or_default() += 1;
+        }
+        for (place, &word) in draft.inputs().into_iter().zip(&inputs) {
+            let line = draft.lines[place];
+            let kind = line.kind().expect("an input");
+            for sort in sorts(kind, [line.p, line.q], word) {
+                *counts.inputs.entry((line.opcode, sort)).or_default() += 1;
+            }
+        }
+        // A run tells the kind of its last step: of the others, the runs up to them do.
+        if number == 0 && random.below(8) == 0 {
+            for (step, shown) in shown.iter().enumerate() {
+                counts.prefixes += 1;
+                let steps = step + 1;
+                let used = draft.inputs().into_iter().filter(|&place| place < steps);
+                let frame = frame(&inputs[..used.count()]);
+                let mut prefix = vec![0; steps];
+                let answer = library::run(&text[..39 * steps], &frame, &mut prefix);
+                if (answer.refusal, answer.kind) != (0, shown.kind as u64) {
+                    return told(&inputs, format!("up to step {step}: {answer}"));
+                }
+                if prefix[..] != words[..steps] {
+                    return told(&inputs, format!("other words up to step {step}"));
+                }
+            }
+        }
+    }
+    None
+}
+
+#[test]
+fn every_run_of_a_passed_sheet_completes_in_its_ranges() {
+    let counts: Counts = on_all_cores(SEEDS, Counts::join, |seed, counts| {
+        let mut random = Random::new(0x9000_0000 + seed);
+        let drafts = recipes(&mut random);
+        let mut broken = drafts
+            .iter()
+            .filter_map(|draft| check(&mut random, draft, counts));
+        broken.next()
+    });
+    let (passed, refused) = (counts.passed, counts.refused);
+    println!("{passed} sheets passed, {refused} refused");
+    println!("{} runs, {} up to a step", counts.runs, counts.prefixes);
+    assert!(counts.runs >= 1_000_000, "{} runs", counts.runs);
+    assert!(counts.prefixes >= 20_000, "{} prefixes", counts.prefixes);
+
+    // Of each step, words at either end and between them. A constant has no range but itself.
+    for operation in &OPERATIONS {
+        let opcode = operation.opcode;
+        let lies = [Lie::Alone, Lie::Low, Lie::High, Lie::Inside];
+        let met = lies.map(|lie| counts.words(opcode, lie));
+        println!("opcode {opcode:02x}, words alone, low, high, inside: {met:?}");
+        let is_constant = !operation.uses_a() && !operation.is_input();
+        let expected = if is_constant { &met[..1] } else { &met[..] };
+        assert!(
+            expected.iter().all(|&count| count >= 1_000),
+            "opcode {opcode:02x}: {met:?}"
+        );
+        assert!(!is_constant || met[1..] == [0, 0, 0], "{opcode:02x}");
+    }
+
+    for sort in SORTS {
+        let met = [0x01, 0x02].map(|opcode| counts.inputs(opcode, sort));
+        println!("inputs {sort:?}: {met:?}");
+        let only_doubles = [
+            Sort::PlusZero,
+            Sort::MinusZero,
+            Sort::Subnormal,
+            Sort::Infinite,
+        ];
+        let expected = &met[..if only_doubles.contains(&sort) { 1 } else { 2 }];
+        assert!(
+            expected.iter().all(|&count| count >= 1_000),
+            "{sort:?}: {met:?}"
+        );
+    }
+}
+
+/// A look that called everything inside would find no promise broken.
+#[test]
+#[rustfmt::skip]
+fn words_lie_where_they_should() {
+    use Lie::{Alone, High, Inside, Low, Outside};
+    const ONE: u64 = 0x3ff0000000000000;
+    const INFINITY: u64 = 0x7ff0000000000000;
+    const MINUS: u64 = 1 << 63;
+    for (kind, low, high, word, expected) in [
+        (Kind::Double, 0, ONE, MINUS, Low),
+        (Kind::Double, MINUS, ONE, 0, Low),
+        (Kind::Double, MINUS, 0, 0, Alone),
+        (Kind::Double, 0, ONE, 1, Inside),
+        (Kind::Double, 0, ONE, MINUS | 1, Outside),
+        (Kind::Double, 0, ONE, ONE - 1, Inside),
+        (Kind::Double, 0, ONE, ONE, High),
+        (Kind::Double, 0, ONE, ONE + 1, Outside),
+        (Kind::Double, MINUS | ONE, ONE, MINUS | (ONE - 1), Inside),
+        (Kind::Double, MINUS | ONE, ONE, MINUS | (ONE + 1), Outside),
+        (Kind::Double, MINUS | INFINITY, INFINITY, INFINITY - 1, Inside),
+        (Kind::Double, MINUS | INFINITY, INFINITY, MINUS | INFINITY, Low),
+        (Kind::Double, MINUS | INFINITY, INFINITY, INFINITY + 1, Outside),
+        (Kind::Double, MINUS | INFINITY, INFINITY, MINUS | INFINITY | 1, Outside),
+        (Kind::Whole, MINUS, INFINITY, 0, Inside),
+        (Kind::Whole, MINUS, INFINITY, MINUS, Low),
+        (Kind::Whole, MINUS, INFINITY, INFINITY + 1, Outside),
+        (Kind::Whole, u64::MAX, 1, 0, Inside),
+        (Kind::Whole, u64::MAX, 1, u64::MAX - 1, Outside),
+        (Kind::Whole, u64::MAX, u64::MAX, u64::MAX, Alone),
+    ] {
+        let shown = Shown { kind, low, high };
+        assert_eq!(shown.lie(word), expected, "{kind:?} {low:x} {high:x} {word:x}");
+    }
+}

@@ -1,0 +1,419 @@
+//! The range rules where they change: ranges read off document 01 by hand, not off the reference.
+//!
+//! Each row is one step on inputs of the ranges given, and what the sheet shows for it, to the bit;
+//! or the number with which it's refused.
+
+use crate::{check, BEFORE};
+use estrenwind_tests::library::SheetAnswer;
+use estrenwind_tests::recipes::{Draft, Line};
+use estrenwind_tests::reference::recipe::{Kind, Way};
+
+/// The largest fraction, 1 - 2^-53.
+const BELOW: f64 = 1.0 - f64::EPSILON / 2.0;
+/// The number after 1.
+const ABOVE: f64 = 1.0 + f64::EPSILON;
+const TINY: f64 = f64::from_bits(1);
+const INF: f64 = f64::INFINITY;
+const MAX: f64 = f64::MAX;
+const LEAST: i64 = i64::MIN;
+const MOST: i64 = i64::MAX;
+const TWO_53: i64 = 1 << 53;
+const TWO_63: f64 = 9_223_372_036_854_775_808.0;
+
+/// The ends of a range, and the kind that they are of.
+trait Ends: Copy {
+    const KIND: Kind;
+    fn words(self) -> [u64; 2];
+}
+
+impl Ends for [f64; 2] {
+    const KIND: Kind = Kind::Double;
+    fn words(self) -> [u64; 2] {
+        self.map(f64::to_bits)
+    }
+}
+
+impl Ends for [i64; 2] {
+    const KIND: Kind = Kind::Whole;
+    fn words(self) -> [u64; 2] {
+        self.map(|n| n as u64)
+    }
+}
+
+fn input<E: Ends>(ends: E) -> Line {
+    Line::input(E::KIND, ends.words())
+}
+
+#[track_caller]
+fn shows<R: Ends>(opcode: u8, inputs: &[Line], expected: Result<R, u64>) {
+    let mut lines = inputs.to_vec();
+    let step = lines.len();
+    lines.push(Line::step(opcode, 0, step - 1));
+    let words = vec![];
+    let call = Draft { lines, words }.sheet_call();
+    let outcome = check(Way::Exact, &call);
+    match expected {
+        Err(refusal) => {
+            let (place, steps) = (step as u64, 0);
+            let refused = SheetAnswer {
+                refusal,
+                place,
+                steps,
+            };
+            assert_eq!(outcome.answer, refused, "{call}");
+        }
+        Ok(ends) => {
+            assert_eq!(outcome.answer, SheetAnswer::passed(step + 1), "{call}");
+            let [low, high] = ends.words();
+            let line = format!("{step:02x}{:02x}{low:016x}{high:016x}\n", R::KIND as u8);
+            let shown = &outcome.memory[BEFORE + 37 * step..][..37];
+            assert_eq!(
+                shown.escape_ascii().to_string(),
+                line.escape_default().to_string(),
+                "{call}"
+            );
+        }
+    }
+}
+
+#[track_caller]
+fn one<A: Ends, R: Ends>(opcode: u8, a: A, expected: Result<R, u64>) {
+    shows(opcode, &[input(a)], expected);
+}
+
+#[track_caller]
+fn two<A: Ends, B: Ends, R: Ends>(opcode: u8, a: A, b: B, expected: Result<R, u64>) {
+    shows(opcode, &[input(a), input(b)], expected);
+}
+
+/// "function of each end". The sign of a zero is its end's.
+#[test]
+#[rustfmt::skip]
+fn roundings() {
+    for (opcode, a, expected) in [
+        (0x10, [-2.5, 7.25],                [-3.0, 7.0]),
+        (0x10, [-0.5, 0.5],                 [-1.0, 0.0]),
+        (0x10, [-0.0, 0.5],                 [-0.0, 0.0]),
+        (0x10, [0.5, BELOW],                [0.0, 0.0]),
+        (0x10, [-TINY, TINY],               [-1.0, 0.0]),
+        (0x10, [-INF, INF],                 [-INF, INF]),
+        (0x11, [-2.5, 7.25],                [-2.0, 8.0]),
+        (0x11, [-0.5, 0.5],                 [-0.0, 1.0]),
+        (0x11, [-BELOW, -TINY],             [-0.0, -0.0]),
+        (0x11, [TINY, ABOVE],               [1.0, 2.0]),
+        (0x11, [-INF, -0.0],                [-INF, -0.0]),
+        (0x12, [-2.5, 7.25],                [-2.0, 7.0]),
+        (0x12, [-0.5, 0.5],                 [-0.0, 0.0]),
+        (0x12, [-BELOW, BELOW],             [-0.0, 0.0]),
+        (0x12, [-MAX, MAX],                 [-MAX, MAX]),
+        (0x13, [-2.5, 7.25],                [-3.0, 7.0]),
+        (0x13, [-0.5, 0.5],                 [-1.0, 1.0]),
+        (0x13, [-f64::from_bits(0x3fdfffffffffffff), f64::from_bits(0x3fdfffffffffffff)], [-0.0, 0.0]),
+        (0x13, [4503599627370495.5, 4503599627370497.0], [4503599627370496.0, 4503599627370497.0]),
+        (0x14, [-2.5, 7.25],                [-2.0, 7.0]),
+        (0x14, [-0.5, 0.5],                 [-0.0, 0.0]),
+        (0x14, [-1.5, 1.5],                 [-2.0, 2.0]),
+        (0x14, [0.5, 2.5],                  [0.0, 2.0]),
+        (0x14, [0.5 + f64::EPSILON / 2.0, INF], [1.0, INF]),
+    ] {
+        one(opcode, a, Ok(expected));
+    }
+}
+
+/// "low: +0 if a.low ≥ 0; a.low if above -1; else -(1-2^-53). High: +0 if a.high ≤ 0; a.high if
+/// below 1; else 1-2^-53".
+#[test]
+#[rustfmt::skip]
+fn modf_s_fraction() {
+    for (a, expected) in [
+        ([-2.0, 2.0],       [-BELOW, BELOW]),
+        ([-1.0, 1.0],       [-BELOW, BELOW]),
+        ([-BELOW, BELOW],   [-BELOW, BELOW]),
+        ([-ABOVE, ABOVE],   [-BELOW, BELOW]),
+        ([-0.25, 0.5],      [-0.25, 0.5]),
+        ([-TINY, TINY],     [-TINY, TINY]),
+        ([0.0, 0.0],        [0.0, 0.0]),
+        ([-0.0, -0.0],      [0.0, 0.0]),
+        ([-0.0, 0.0],       [0.0, 0.0]),
+        ([0.0, -0.0],       [0.0, 0.0]),
+        ([0.25, 0.5],       [0.0, 0.5]),
+        ([-0.5, -0.25],     [-0.5, 0.0]),
+        ([-0.5, -0.0],      [-0.5, 0.0]),
+        ([-0.0, 0.5],       [0.0, 0.5]),
+        ([3.0, 3.0],        [0.0, BELOW]),
+        ([3.25, 3.5],       [0.0, BELOW]),
+        ([-3.5, -3.25],     [-BELOW, 0.0]),
+        ([-1.0, -1.0],      [-BELOW, 0.0]),
+        ([1.0, 1.0],        [0.0, BELOW]),
+        ([-INF, INF],       [-BELOW, BELOW]),
+        ([INF, INF],        [0.0, BELOW]),
+        ([-INF, -INF],      [-BELOW, 0.0]),
+        ([-INF, -MAX],      [-BELOW, 0.0]),
+        ([-0.5, INF],       [-0.5, BELOW]),
+    ] {
+        one(0x15, a, Ok(expected));
+    }
+    assert_eq!(BELOW.to_bits(), 0x3fefffffffffffff);
+}
+
+/// "a.low ≥ 0: fabs of low, of high; else a.high ≤ 0: fabs of high, of low; else +0, fmax(fabs low,
+/// fabs high)".
+#[test]
+#[rustfmt::skip]
+fn fabs() {
+    for (a, expected) in [
+        ([-2.0, 1.0],       [0.0, 2.0]),
+        ([-1.0, 2.0],       [0.0, 2.0]),
+        ([-2.0, 2.0],       [0.0, 2.0]),
+        ([1.0, 2.0],        [1.0, 2.0]),
+        ([-2.0, -1.0],      [1.0, 2.0]),
+        ([-0.0, 2.0],       [0.0, 2.0]),
+        ([0.0, -0.0],       [0.0, 0.0]),
+        ([-2.0, 0.0],       [0.0, 2.0]),
+        ([-2.0, -0.0],      [0.0, 2.0]),
+        ([-0.0, -0.0],      [0.0, 0.0]),
+        ([-TINY, TINY],     [0.0, TINY]),
+        ([-TINY, MAX],      [0.0, MAX]),
+        ([-INF, TINY],      [0.0, INF]),
+        ([-INF, INF],       [0.0, INF]),
+        ([-INF, -INF],      [INF, INF]),
+        ([-INF, -MAX],      [MAX, INF]),
+    ] {
+        one(0x16, a, Ok(expected));
+    }
+}
+
+/// "negated high, negated low".
+#[test]
+#[rustfmt::skip]
+fn negate() {
+    for (a, expected) in [
+        ([-1.0, 2.0],       [-2.0, 1.0]),
+        ([1.0, 2.0],        [-2.0, -1.0]),
+        ([-0.0, 0.0],       [-0.0, 0.0]),
+        ([0.0, -0.0],       [0.0, -0.0]),
+        ([0.0, 0.0],        [-0.0, -0.0]),
+        ([0.0, TINY],       [-TINY, -0.0]),
+        ([-INF, MAX],       [-MAX, INF]),
+        ([INF, INF],        [-INF, -INF]),
+    ] {
+        one(0x17, a, Ok(expected));
+    }
+}
+
+/// "lround of each end". Refusal 21: "answer (sheet: either end's) not in 64 bits".
+#[test]
+#[rustfmt::skip]
+fn lround() {
+    let below = TWO_63.next_down();
+    for (a, expected) in [
+        ([-2.5, 2.5],               Ok([-3, 3])),
+        ([-0.5, 0.5],               Ok([-1, 1])),
+        ([-0.25, 0.25],             Ok([0, 0])),
+        ([-0.0, f64::from_bits(0x3fdfffffffffffff)], Ok([0, 0])),
+        ([-TWO_63, below],          Ok([LEAST, 0x7ffffffffffffc00])),
+        ([-TWO_63, -TWO_63],        Ok([LEAST, LEAST])),
+        ([-TWO_63, TWO_63],         Err(21)),
+        ([0.0, TWO_63],             Err(21)),
+        ([TWO_63, TWO_63],          Err(21)),
+        ([(-TWO_63).next_down(), 0.0], Err(21)),
+        ([0.0, INF],                Err(21)),
+        ([-INF, 0.0],               Err(21)),
+        ([-INF, -INF],              Err(21)),
+        ([-INF, INF],               Err(21)),
+        ([MAX, INF],                Err(21)),
+        ([below, below],            Ok([0x7ffffffffffffc00, 0x7ffffffffffffc00])),
+    ] {
+        one(0x18, a, expected);
+    }
+}
+
+/// "function of lows, of highs". Equal operands give the first.
+#[test]
+#[rustfmt::skip]
+fn fmin_and_fmax() {
+    for (opcode, a, b, expected) in [
+        (0x20, [-1.0, 5.0],   [-2.0, 3.0],   [-2.0, 3.0]),
+        (0x20, [1.0, 2.0],    [3.0, 4.0],    [1.0, 2.0]),
+        (0x20, [1.0, 4.0],    [2.0, 3.0],    [1.0, 3.0]),
+        (0x20, [0.0, 0.0],    [-0.0, -0.0],  [0.0, 0.0]),
+        (0x20, [-0.0, -0.0],  [0.0, 0.0],    [-0.0, -0.0]),
+        (0x20, [-0.0, 0.0],   [0.0, -0.0],   [-0.0, 0.0]),
+        (0x20, [-INF, INF],   [1.0, 2.0],    [-INF, 2.0]),
+        (0x20, [INF, INF],    [-MAX, MAX],   [-MAX, MAX]),
+        (0x21, [-1.0, 5.0],   [-2.0, 3.0],   [-1.0, 5.0]),
+        (0x21, [1.0, 2.0],    [3.0, 4.0],    [3.0, 4.0]),
+        (0x21, [1.0, 4.0],    [2.0, 3.0],    [2.0, 4.0]),
+        (0x21, [0.0, 0.0],    [-0.0, -0.0],  [0.0, 0.0]),
+        (0x21, [-0.0, -0.0],  [0.0, 0.0],    [-0.0, -0.0]),
+        (0x21, [-0.0, 0.0],   [0.0, -0.0],   [-0.0, 0.0]),
+        (0x21, [-INF, INF],   [1.0, 2.0],    [1.0, INF]),
+        (0x21, [-INF, -INF],  [-MAX, MAX],   [-MAX, MAX]),
+    ] {
+        two(opcode, a, b, Ok(expected));
+    }
+}
+
+/// "M = fmax(fabs b.low, fabs b.high). Low: +0 if a.low ≥ 0, else -fmin(fabs a.low, M). High: +0 if
+/// a.high ≤ 0, else fmin(a.high, M)". Refusal 20: "an infinite end of a, or b holds zero".
+#[test]
+#[rustfmt::skip]
+fn fmod() {
+    for (a, b, expected) in [
+        ([-7.5, 7.5],    [1.0, 2.0],     Ok([-2.0, 2.0])),
+        ([-7.5, 7.5],    [-2.0, -1.0],   Ok([-2.0, 2.0])),
+        ([-7.5, 7.5],    [-3.0, -3.0],   Ok([-3.0, 3.0])),
+        ([-7.5, 1.5],    [2.0, 3.0],     Ok([-3.0, 1.5])),
+        ([-1.5, 7.5],    [2.0, 3.0],     Ok([-1.5, 3.0])),
+        ([-1.5, 1.5],    [2.0, 3.0],     Ok([-1.5, 1.5])),
+        ([4.0, 7.5],     [2.0, 3.0],     Ok([0.0, 3.0])),
+        ([-7.5, -4.0],   [2.0, 3.0],     Ok([-3.0, 0.0])),
+        ([0.0, 0.0],     [2.0, 3.0],     Ok([0.0, 0.0])),
+        ([-0.0, -0.0],   [2.0, 3.0],     Ok([0.0, 0.0])),
+        ([-0.0, 1.0],    [2.0, 3.0],     Ok([0.0, 1.0])),
+        ([-1.0, -0.0],   [2.0, 3.0],     Ok([-1.0, 0.0])),
+        ([-1.0, 1.0],    [INF, INF],     Ok([-1.0, 1.0])),
+        ([-MAX, MAX],    [-INF, -1.0],   Ok([-MAX, MAX])),
+        ([-MAX, MAX],    [TINY, TINY],   Ok([-TINY, TINY])),
+        ([-MAX, MAX],    [-TINY, -TINY], Ok([-TINY, TINY])),
+        ([-1.0, 1.0],    [-1.0, 2.0],    Err(20)),
+        ([-1.0, 1.0],    [0.0, 2.0],     Err(20)),
+        ([-1.0, 1.0],    [-0.0, 2.0],    Err(20)),
+        ([-1.0, 1.0],    [-2.0, 0.0],    Err(20)),
+        ([-1.0, 1.0],    [-2.0, -0.0],   Err(20)),
+        ([-1.0, 1.0],    [-0.0, -0.0],   Err(20)),
+        ([-1.0, 1.0],    [-TINY, TINY],  Err(20)),
+        ([-1.0, 1.0],    [-INF, INF],    Err(20)),
+        ([-1.0, INF],    [1.0, 2.0],     Err(20)),
+        ([-INF, 1.0],    [1.0, 2.0],     Err(20)),
+        ([INF, INF],     [1.0, 2.0],     Err(20)),
+        ([-INF, -INF],   [INF, INF],     Err(20)),
+    ] {
+        two(0x22, a, b, expected);
+    }
+}
+
+/// "low: a.low by b.high if a.low < 0, else by b.low. High: a.high by b.high if a.high > 0, else by
+/// b.low". Refusal 21: "infinite end of a, or either end's scaling overflows".
+#[test]
+#[rustfmt::skip]
+fn ldexp() {
+    let half = 0.5 * MAX;
+    for (a, b, expected) in [
+        ([1.0, 3.0],     [-1, 2],        Ok([0.5, 12.0])),
+        ([-3.0, -1.0],   [-1, 2],        Ok([-12.0, -0.5])),
+        ([-3.0, 1.0],    [-1, 2],        Ok([-12.0, 4.0])),
+        ([0.0, 3.0],     [-1, 2],        Ok([0.0, 12.0])),
+        ([-0.0, 3.0],    [-1, 2],        Ok([-0.0, 12.0])),
+        ([-3.0, 0.0],    [-1, 2],        Ok([-12.0, 0.0])),
+        ([-3.0, -0.0],   [-1, 2],        Ok([-12.0, -0.0])),
+        ([-0.0, 0.0],    [LEAST, MOST],  Ok([-0.0, 0.0])),
+        ([0.0, -0.0],    [LEAST, MOST],  Ok([0.0, -0.0])),
+        ([1.0, 1.0],     [-1075, -1074], Ok([0.0, TINY])),
+        ([1.5, 1.5],     [-1075, -1075], Ok([TINY, TINY])),
+        ([-1.0, -1.0],   [-1075, -1074], Ok([-TINY, -0.0])),
+        ([1.0, MAX],     [LEAST, LEAST], Ok([0.0, 0.0])),
+        ([-MAX, -1.0],   [LEAST, LEAST], Ok([-0.0, -0.0])),
+        ([half, half],   [0, 1],         Ok([half, MAX])),
+        ([1.0, 1.0],     [1023, 1023],   Ok([2f64.powi(1023), 2f64.powi(1023)])),
+        ([TINY, TINY],   [0, 2097],      Ok([TINY, 2f64.powi(1023)])),
+        ([TINY, TINY],   [0, 2098],      Err(21)),
+        ([1.0, 1.0],     [0, 1024],      Err(21)),
+        ([-1.0, 0.0],    [0, 1024],      Err(21)),
+        ([0.0, TINY],    [0, MOST],      Err(21)),
+        ([-TINY, 0.0],   [0, MOST],      Err(21)),
+        ([half, half],   [0, 2],         Err(21)),
+        ([-half, -half], [0, 2],         Err(21)),
+        ([MAX, MAX],     [1, 1],         Err(21)),
+        ([1.0, INF],     [0, 0],         Err(21)),
+        ([-INF, 1.0],    [-5, 0],        Err(21)),
+        ([INF, INF],     [LEAST, LEAST], Err(21)),
+        ([-INF, INF],    [0, 0],         Err(21)),
+    ] {
+        two(0x23, a, b, expected);
+    }
+}
+
+/// "low+low, high+high; low-high, high-low". Refusal 21: "answer (sheet: either end's) not in 64
+/// bits".
+#[test]
+#[rustfmt::skip]
+fn sums_and_differences() {
+    for (opcode, a, b, expected) in [
+        (0x30, [-2, 5],         [10, 20],     Ok([8, 25])),
+        (0x30, [LEAST, MOST],   [0, 0],       Ok([LEAST, MOST])),
+        (0x30, [LEAST + 1, 0],  [-1, 0],      Ok([LEAST, 0])),
+        (0x30, [0, MOST - 1],   [0, 1],       Ok([0, MOST])),
+        (0x30, [LEAST, LEAST],  [MOST, MOST], Ok([-1, -1])),
+        (0x30, [0, MOST],       [0, 1],       Err(21)),
+        (0x30, [LEAST, 0],      [-1, 0],      Err(21)),
+        (0x30, [MOST, MOST],    [1, 1],       Err(21)),
+        (0x30, [LEAST, MOST],   [LEAST, MOST], Err(21)),
+        (0x31, [-2, 5],         [10, 20],     Ok([-22, -5])),
+        (0x31, [0, 0],          [-1, 1],      Ok([-1, 1])),
+        (0x31, [0, 0],          [-MOST, MOST], Ok([-MOST, MOST])),
+        (0x31, [-1, -1],        [LEAST, MOST], Ok([LEAST, MOST])),
+        (0x31, [LEAST, LEAST],  [LEAST, LEAST], Ok([0, 0])),
+        (0x31, [0, 0],          [LEAST, 0],   Err(21)),
+        (0x31, [-2, -2],        [0, MOST],    Err(21)),
+        (0x31, [LEAST, 0],      [0, 1],       Err(21)),
+        (0x31, [0, MOST],       [-1, 0],      Err(21)),
+    ] {
+        two(opcode, a, b, expected);
+    }
+}
+
+/// "each end". Refusal 22: "magnitude over 2^53 (sheet: of either end)".
+#[test]
+#[rustfmt::skip]
+fn whole_to_double() {
+    let two_53 = TWO_53 as f64;
+    for (a, expected) in [
+        ([-7, 9],                   Ok([-7.0, 9.0])),
+        ([0, 0],                    Ok([0.0, 0.0])),
+        ([-TWO_53, TWO_53],         Ok([-two_53, two_53])),
+        ([TWO_53 - 1, TWO_53],      Ok([two_53 - 1.0, two_53])),
+        ([-TWO_53, 1 - TWO_53],     Ok([-two_53, 1.0 - two_53])),
+        ([0, TWO_53 + 1],           Err(22)),
+        ([-TWO_53 - 1, 0],          Err(22)),
+        ([TWO_53 + 1, TWO_53 + 1],  Err(22)),
+        ([TWO_53 + 2, MOST],        Err(22)),
+        ([LEAST, LEAST],            Err(22)),
+        ([LEAST, 0],                Err(22)),
+        ([LEAST, MOST],             Err(22)),
+    ] {
+        one(0x32, a, expected);
+    }
+}
+
+/// "P to Q" and "P to P", bit for bit: of the zeros, those that stand there.
+#[test]
+fn inputs_and_constants() {
+    let shown = |line: Line, [low, high]: [u64; 2]| {
+        let kind = line.kind().expect("an opcode") as u8;
+        let (lines, words) = (vec![line], vec![]);
+        let outcome = check(Way::Exact, &Draft { lines, words }.sheet_call());
+        let expected = format!("00{kind:02x}{low:016x}{high:016x}\n");
+        assert_eq!(outcome.memory[BEFORE..][..37], *expected.as_bytes());
+    };
+    for ends in [
+        [0.0, 0.0],
+        [-0.0, 0.0],
+        [0.0, -0.0],
+        [-0.0, -0.0],
+        [-INF, INF],
+        [INF, INF],
+        [-TINY, MAX],
+    ] {
+        shown(input(ends), ends.words());
+        for p in ends {
+            shown(Line::constant(Kind::Double, p.to_bits()), [p, p].words());
+        }
+    }
+    for ends in [[LEAST, MOST], [-1, 0], [MOST, MOST], [LEAST, LEAST]] {
+        shown(input(ends), ends.words());
+        for p in ends {
+            shown(Line::constant(Kind::Whole, p as u64), [p, p].words());
+        }
+    }
+}
