@@ -1,41 +1,65 @@
 -- Ranges by their two ends, in the shape in which the range rules' functions make them. Assumes nothing.
 use mathlib.Core.Path.{_≡_, refl, sym, ap, _∙_}
 use mathlib.Core.Bool.{Bool, true, false, not, _&&_, _||_, cond}
-use Prim.Native.Nat.{ℕ}
-use lib.Dec.{eqb}
-use lib.IntN.{ℤ}
+use Prim.Native.Nat.{ℕ, _^_}
+use lib.Dec.{eqb, leb}
+use lib.IntN.{ℤ, natAbs}
 use Rattle.float_format.specs.Format.{binary64}
+use Rattle.float_format.specs.Rounding.{lroundRefusal, lroundValue}
 use Rattle.scaling.specs.Scaling.{ldexp, ldexpRefusal}
-use Rattle.evaluation.specs.Value.{Datum, double, whole, real, Outcome, done}
+use Rattle.evaluation.specs.Value.{whole, real, Outcome, done, fitsWord, ofWhole}
 use Rattle.evaluation.specs.Value as value
-use Rattle.evaluation.specs.Range.{Range, doubles, wholes, Ranged, ranged, refused, low, high, isNegative, isPositive, infiniteEnd, holdsZero, greatest, fmodLow, fmodHigh, fmodRange, ldexpRange}
-use Rattle.evaluation.specs.Carried.{spanned, between, carried}
+use Rattle.evaluation.specs.Range.{Range, doubles, wholes, Ranged, ranged, refused, low, high, least, most, isNegative, isPositive, infiniteEnd, holdsZero, greatest, fmodLow, fmodHigh, fmodRange, ldexpRange, lroundRange, wholeRange, doubleRange}
+use Rattle.evaluation.specs.Carried.{between, carried}
 
--- two ends, each refused by a test of its own
-pub both-wholes : (t u : Bool) (l h : ℤ) (number : ℕ)
+-- ---- two ends, each refused by a test of its own
+
+both-wholes : (t u : Bool) (l h : ℤ) (number : ℕ)
     → between (cond t (done (whole l)) (value.refused number)) (cond u (done (whole h)) (value.refused number)) ≡ carried (cond (t && u) (ranged (wholes l h)) (refused number))
 both-wholes true true l h number = refl
 both-wholes true false l h number = refl
 both-wholes false u l h number = refl
 
-pub both-reals : (t u : Bool) (x y number : ℕ)
+both-reals : (t u : Bool) (x y number : ℕ)
     → between (cond t (done (real x)) (value.refused number)) (cond u (done (real y)) (value.refused number)) ≡ carried (cond (t && u) (ranged (doubles x y)) (refused number))
 both-reals true true x y number = refl
 both-reals true false x y number = refl
 both-reals false u x y number = refl
 
--- the same where the tests are of what is not refused
-pub neither-real : (t u : Bool) (x y number : ℕ)
+-- o and p are what the ends come to
+pub lround-ranged : (a : Range) (o p : Outcome)
+    → o ≡ cond (eqb (lroundRefusal binary64 (low a)) 0) (done (whole (lroundValue binary64 (low a)))) (value.refused 21)
+    → p ≡ cond (eqb (lroundRefusal binary64 (high a)) 0) (done (whole (lroundValue binary64 (high a)))) (value.refused 21)
+    → between o p ≡ carried (lroundRange a)
+lround-ranged a o p e f =
+    rw (e, f)
+    (both-wholes (eqb (lroundRefusal binary64 (low a)) 0) (eqb (lroundRefusal binary64 (high a)) 0) (lroundValue binary64 (low a)) (lroundValue binary64 (high a)) 21)
+
+pub whole-ranged : (l h : ℤ) (o p : Outcome) → o ≡ cond (fitsWord l) (done (whole l)) (value.refused 21) → p ≡ cond (fitsWord h) (done (whole h)) (value.refused 21)
+    → between o p ≡ carried (wholeRange l h)
+whole-ranged l h o p e f = rw (e, f) (both-wholes (fitsWord l) (fitsWord h) l h 21)
+
+pub double-ranged : (a : Range) (o p : Outcome)
+    → o ≡ cond (leb (natAbs (least a)) (2 ^ 53)) (done (real (ofWhole (least a)))) (value.refused 22)
+    → p ≡ cond (leb (natAbs (most a)) (2 ^ 53)) (done (real (ofWhole (most a)))) (value.refused 22)
+    → between o p ≡ carried (doubleRange a)
+double-ranged a o p e f =
+    rw (e, f) (both-reals (leb (natAbs (least a)) (2 ^ 53)) (leb (natAbs (most a)) (2 ^ 53)) (ofWhole (least a)) (ofWhole (most a)) 22)
+
+-- ---- ldexp
+
+-- the tests are of what is not refused
+neither-real : (t u : Bool) (x y number : ℕ)
     → between (cond t (done (real x)) (value.refused number)) (cond u (done (real y)) (value.refused number)) ≡ carried (cond (not t || not u) (refused number) (ranged (doubles x y)))
 neither-real true true x y number = refl
 neither-real true false x y number = refl
 neither-real false u x y number = refl
 
--- ldexp: a first test turns both ends down
+-- a first test turns both ends down
 pub scaled-refused : (s t u : Bool) (r : Ranged) → s ≡ true → refused 21 ≡ carried (cond (s || t || u) (refused 21) r)
 scaled-refused s t u r e = rw e
 
-pub scaled-ends : (s t u : Bool) (x y : ℕ) → s ≡ false
+scaled-ends : (s t u : Bool) (x y : ℕ) → s ≡ false
     → between (cond t (done (real x)) (value.refused 21)) (cond u (done (real y)) (value.refused 21)) ≡ carried (cond (s || not t || not u) (refused 21) (ranged (doubles x y)))
 scaled-ends s t u x y e = rw e (neither-real t u x y 21)
 
@@ -50,7 +74,8 @@ ldexp-ranged low high least most m n o p e i j f g =
     (scaled-ends (infiniteEnd (doubles low high)) (eqb (ldexpRefusal binary64 low (cond (isNegative low) most least)) 0) (eqb (ldexpRefusal binary64 high (cond (isPositive high) most least)) 0)
     (ldexp binary64 low (cond (isNegative low) most least)) (ldexp binary64 high (cond (isPositive high) most least)) e)
 
--- fmod, by its one test
+-- ---- fmod, by its one test
+
 pub divided-refused : (a b : Range) → (infiniteEnd a || holdsZero b) ≡ true → refused 20 ≡ carried (fmodRange a b)
 divided-refused a b e = sym (ap (λ (t : Bool). carried (cond t (refused 20) (ranged (doubles (fmodLow (low a) (greatest b)) (fmodHigh (high a) (greatest b)))))) e)
 

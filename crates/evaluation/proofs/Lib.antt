@@ -18,5 +18,6 @@ pub mod Laws
 pub mod Sound
 pub mod Covering
 pub mod SheetCalls
+pub mod SheetLines
 pub mod Promises
 pub mod Examples

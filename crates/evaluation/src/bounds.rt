@@ -192,7 +192,7 @@ fn ldexp_range(low: u64, high: u64, least: i64, most: i64) -> Bound
 }
 
 // The range of the step t, a and b being its operands' ranges.
-pub fn step_range(t: Step, a: Range, b: Range) -> Bound
+pub(crate) fn step_range(t: Step, a: Range, b: Range) -> Bound
     requires { ⌜ RealRange a × RealRange b ⌝ }
     ensures { λ r. ⌜ (boundOf r ≡ carried (stepRange t (seenRange a) (seenRange b))) × RealBound r ⌝ }
 {

@@ -28,7 +28,7 @@ pub struct Inputs {
 
 // The input that a step with this opcode declares; `Unknown` for a step that is no input. As good as the row itself wherever only inputs
 // count, and two tests where the table takes ten.
-pub fn declared(opcode: u8) -> Row
+pub(crate) fn declared(opcode: u8) -> Row
     ensures { λ r. ⌜ Declares opcode r ⌝ }
 {
     match opcode {
@@ -39,7 +39,7 @@ pub fn declared(opcode: u8) -> Row
 }
 
 // The number of the next input after a step of the row: the one after n where the step is an input, else still n.
-pub fn next_input(n: InputNumber, row: Row) -> InputNumber
+pub(crate) fn next_input(n: InputNumber, row: Row) -> InputNumber
     requires { ⌜ n .0 < 65535 ⌝ }
     ensures { λ r. ⌜ (r .0 ≡ cond (isInput row) 1 0 + n .0) × (r .0 ≤ n .0 + 1) ⌝ }
 {
@@ -51,7 +51,7 @@ pub fn next_input(n: InputNumber, row: Row) -> InputNumber
 
 // How many of the first n steps are inputs. The contracts below say `n ≤ length (recipe .steps)`, which holds of every recipe that was read:
 // of an array of structs the length is not known by its type alone.
-pub fn input_total(recipe: Recipe, n: usize) -> usize
+pub(crate) fn input_total(recipe: Recipe, n: usize) -> usize
     requires { ⌜ n ≤ 128 ⌝ }
     ensures { λ r. ⌜ (n ≤ length (recipe .steps) → r ≡ inputsIn (take n (recipe .steps))) × (r ≤ n) ⌝ }
 {
@@ -66,7 +66,7 @@ pub fn input_total(recipe: Recipe, n: usize) -> usize
 }
 
 // The words of a frame of n inputs, 16 digits each.
-pub fn read_words(frame: &[u8], n: usize) -> Inputs
+pub(crate) fn read_words(frame: &[u8], n: usize) -> Inputs
     requires { ⌜ (n * 16 ≤ length (now frame)) × (n ≤ 16) ⌝ }
     ensures { λ r. ⌜ Read (wordsFrom (now (frame .entry)) n 0 []) r ⌝ }
 {
@@ -119,7 +119,7 @@ pub enum Ranges {
 }
 
 // Holds the inputs' words to the ranges that the first n steps declare.
-pub fn check_ranges(recipe: Recipe, n: usize, inputs: Inputs) -> Ranges
+pub(crate) fn check_ranges(recipe: Recipe, n: usize, inputs: Inputs) -> Ranges
     requires { ⌜ n ≤ 128 ⌝ }
     ensures { λ r. ⌜ (n ≤ length (recipe .steps) → (ws : List ℕ) → Same (inputs .words) ws → ranged (take n (recipe .steps)) 0 0 ws ≡ rangedBy r ws) ⌝ }
 {

@@ -12,7 +12,7 @@ use twos_complement::word;
 
 impl Range {
     // From one value to another of its kind. Of two kinds, which no rule gives, zero to zero.
-    pub fn of(low: Value, high: Value) -> Range
+    pub(crate) fn of(low: Value, high: Value) -> Range
         requires { ⌜ Real low × Real high ⌝ }
         ensures { λ r. ⌜ (seenRange r ≡ spanned (seen low) (seen high)) × RealRange r ⌝ }
     {
@@ -29,7 +29,7 @@ impl Range {
     }
 
     // As an operand that is a double: the patterns of its ends.
-    pub fn low(self) -> u64
+    pub(crate) fn low(self) -> u64
         requires { ⌜ RealRange self ⌝ }
         ensures { λ r. ⌜ r ≡ low (seenRange self) ⌝ }
     {
@@ -39,7 +39,7 @@ impl Range {
         }
     }
 
-    pub fn high(self) -> u64
+    pub(crate) fn high(self) -> u64
         requires { ⌜ RealRange self ⌝ }
         ensures { λ r. ⌜ r ≡ high (seenRange self) ⌝ }
     {
@@ -50,7 +50,7 @@ impl Range {
     }
 
     // As an operand that is a whole number: its ends.
-    pub fn least(self) -> i64
+    pub(crate) fn least(self) -> i64
         ensures { λ r. ⌜ r ≡ least (seenRange self) ⌝ }
     {
         match self {
@@ -59,7 +59,7 @@ impl Range {
         }
     }
 
-    pub fn most(self) -> i64
+    pub(crate) fn most(self) -> i64
         ensures { λ r. ⌜ r ≡ most (seenRange self) ⌝ }
     {
         match self {
@@ -69,7 +69,7 @@ impl Range {
     }
 
     // The 64 bits of its ends.
-    pub fn low_word(self) -> u64
+    pub(crate) fn low_word(self) -> u64
         requires { ⌜ RealRange self ⌝ }
         ensures { λ r. ⌜ r ≡ lowWord (seenRange self) ⌝ }
     {
@@ -79,7 +79,7 @@ impl Range {
         }
     }
 
-    pub fn high_word(self) -> u64
+    pub(crate) fn high_word(self) -> u64
         requires { ⌜ RealRange self ⌝ }
         ensures { λ r. ⌜ r ≡ highWord (seenRange self) ⌝ }
     {
@@ -89,7 +89,7 @@ impl Range {
         }
     }
 
-    pub fn kind(self) -> Kind
+    pub(crate) fn kind(self) -> Kind
         ensures { λ r. ⌜ r ≡ kindOf (seenRange self) ⌝ }
     {
         match self {

@@ -15,7 +15,7 @@ use super::steps::place_of;
 use recipe::Recipe;
 
 // The answer of a refusal.
-pub fn turned_down(number: u64, place: u64) -> SheetAnswer
+pub(crate) fn turned_down(number: u64, place: u64) -> SheetAnswer
     ensures { λ r. ⌜ r ≡ answerOf (refused number place) ⌝ }
 {
     SheetAnswer {
@@ -38,7 +38,7 @@ fn write_line(step: usize, r: Range, line: &mut [u8])
 }
 
 // The sheet of the first n steps; writes its lines only after the last has its range.
-pub fn write_sheet(recipe: Recipe, n: usize, bytes: &mut [u8]) -> SheetAnswer
+pub(crate) fn write_sheet(recipe: Recipe, n: usize, bytes: &mut [u8]) -> SheetAnswer
     requires { ⌜ (n ≤ 128) × (n * 37 ≤ length (now bytes)) ⌝ }
     ensures { λ r. ⌜ (n ≤ length (recipe .steps) →
         (r ≡ answerOf (carriedFrom (take n (recipe .steps)) 0 []))

@@ -71,20 +71,20 @@ fn difference_fits(m: i64, n: i64) -> bool
 
 // ---- what a step comes to
 
-pub fn real_of(x: u64) -> Outcome
+pub(crate) fn real_of(x: u64) -> Outcome
     ensures { λ r. ⌜ (outcomeOf r ≡ done (real x)) × RealOutcome r ⌝ }
 {
     Outcome::Done(Value::real(x))
 }
 
-pub fn whole_of(z: i64) -> Outcome
+pub(crate) fn whole_of(z: i64) -> Outcome
     ensures { λ r. ⌜ (outcomeOf r ≡ done (whole z)) × RealOutcome r ⌝ }
 {
     Outcome::Done(Value::Whole(z))
 }
 
 // 18
-pub fn lround_of(x: u64) -> Outcome
+pub(crate) fn lround_of(x: u64) -> Outcome
     ensures { λ r. ⌜ (outcomeOf r ≡ cond (eqb (lroundRefusal binary64 x) 0) (done (whole (lroundValue binary64 x))) (refused 21)) × RealOutcome r ⌝ }
 {
     let answer = binary64::lround(x);
@@ -106,7 +106,7 @@ fn fmod_of(x: u64, y: u64) -> Outcome
 }
 
 // 23
-pub fn ldexp_of(x: u64, n: i64) -> Outcome
+pub(crate) fn ldexp_of(x: u64, n: i64) -> Outcome
     ensures { λ r. ⌜ (outcomeOf r ≡ cond (eqb (ldexpRefusal binary64 x n) 0) (done (real (ldexp binary64 x n))) (refused 21)) × RealOutcome r ⌝ }
 {
     let answer = scaling::binary64::ldexp(x, n);
@@ -117,7 +117,7 @@ pub fn ldexp_of(x: u64, n: i64) -> Outcome
 }
 
 // 30
-pub fn sum_of(m: i64, n: i64) -> Outcome
+pub(crate) fn sum_of(m: i64, n: i64) -> Outcome
     ensures { λ r. ⌜ (outcomeOf r ≡ cond (fitsWord (m +ℤ n)) (done (whole (m +ℤ n))) (refused 21)) × RealOutcome r ⌝ }
 {
     if sum_fits(m, n) {
@@ -127,7 +127,7 @@ pub fn sum_of(m: i64, n: i64) -> Outcome
 }
 
 // 31
-pub fn difference_of(m: i64, n: i64) -> Outcome
+pub(crate) fn difference_of(m: i64, n: i64) -> Outcome
     ensures { λ r. ⌜ (outcomeOf r ≡ cond (fitsWord (m -ℤ n)) (done (whole (m -ℤ n))) (refused 21)) × RealOutcome r ⌝ }
 {
     if difference_fits(m, n) {
@@ -153,7 +153,7 @@ fn pattern_of(z: i64, a: u64) -> u64
 }
 
 // 32
-pub fn double_of(z: i64) -> Outcome
+pub(crate) fn double_of(z: i64) -> Outcome
     ensures { λ r. ⌜ (outcomeOf r ≡ cond (leb (natAbs z) (2 ^ 53)) (done (real (ofWhole z))) (refused 22)) × RealOutcome r ⌝ }
 {
     let a = if at_least_zero(z) {
@@ -168,7 +168,7 @@ pub fn double_of(z: i64) -> Outcome
 }
 
 // The value of the step t, w being the frame's word for it where it is an input, a and b its operands' values.
-pub fn step_value(t: Step, w: u64, a: Value, b: Value) -> Outcome
+pub(crate) fn step_value(t: Step, w: u64, a: Value, b: Value) -> Outcome
     requires { ⌜ Real a × Real b ⌝ }
     ensures { λ r. ⌜ (outcomeOf r ≡ stepValue t w (seen a) (seen b)) × RealOutcome r ⌝ }
 {

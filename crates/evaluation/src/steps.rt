@@ -19,7 +19,7 @@ use recipe::Recipe;
 use recipe::StepNumber;
 
 // The answer of a refusal.
-pub fn refusal(number: u64, place: u64) -> RunAnswer
+pub(crate) fn refusal(number: u64, place: u64) -> RunAnswer
     ensures { λ r. ⌜ r ≡ answerOf (refused number place) ⌝ }
 {
     RunAnswer {
@@ -31,14 +31,14 @@ pub fn refusal(number: u64, place: u64) -> RunAnswer
 }
 
 // The same where the place is a step.
-pub fn refusal_at(number: u64, step: StepNumber) -> RunAnswer
+pub(crate) fn refusal_at(number: u64, step: StepNumber) -> RunAnswer
     ensures { λ r. ⌜ r ≡ answerOf (refused number (step .0)) ⌝ }
 {
     refusal(number, step.0 as u64)
 }
 
 // Where step i finds its operand k: at k, if that is an earlier step. Else at i itself, whose place still holds the start element.
-pub fn place_of(k: StepNumber, i: usize) -> usize
+pub(crate) fn place_of(k: StepNumber, i: usize) -> usize
     ensures { λ r. ⌜ (r ≡ cond (ltb (k .0) i) (k .0) i) × (r ≤ i) ⌝ }
 {
     let a = k.0 as usize;
@@ -46,7 +46,7 @@ pub fn place_of(k: StepNumber, i: usize) -> usize
 }
 
 // Runs the first n steps, and writes their words only after the last has its value.
-pub fn evaluate(recipe: Recipe, n: usize, inputs: Inputs, words: &mut [u64]) -> RunAnswer
+pub(crate) fn evaluate(recipe: Recipe, n: usize, inputs: Inputs, words: &mut [u64]) -> RunAnswer
     requires { ⌜ (n ≤ 128) × (n ≤ length (now words)) ⌝ }
     ensures { λ r. ⌜ (n ≤ length (recipe .steps) → (ws : List ℕ) → Same (inputs .words) ws →
         (r ≡ answerOf (runFrom (take n (recipe .steps)) 0 0 ws []))

@@ -1,15 +1,53 @@
 -- One digit more of `fieldOf` and of `digits`, in the form in which a loop takes it. Assumes nothing.
 use mathlib.Core.Path.{_≡_, refl, ap, _∙_}
+use mathlib.Core.Bool.{Bool, true, false}
 use mathlib.Core.List.{List, [], _∷_, _++_, append-assoc}
+use mathlib.Core.Logic.{_⊎_, inl, inr, ⊎-elim}
 use Prim.Native.Nat.{ℕ, zero, suc, _+_, _-_, _*_, _/_, _%_, _^_, _≤_, _<_}
 use native.Mathlib.Omega.{arith}
 use native.Mathlib.Nat.{pow-suc, pow-le-pow-right}
 use native.Mathlib.Numerals.{add-one}
+use lib.Dec.{ltb}
 use lib.ListN.{length, length-append, length-set, getD, set, drop}
 use lib.Seq.{drop-cons, drop-set-lt, getD-set-same}
-use borrow.Author.Tests.{lt-ltb, le-ltb}
+use borrow.Author.Tests.{lt-ltb, le-ltb, le-leb, lt-leb, ltb-true, ltb-false}
 use Rattle.hex.specs.Hex.{digitOf, fieldOf, glyphOf, digits}
 use Rattle.hex.specs.declared.Field.the-variants.{Value, Malformed}
+
+pub by-test : (m n : ℕ) (b : Bool) → ltb m n ≡ b → (m < n) ⊎ (n ≤ m)
+by-test m n true e = inl (ltb-true m n e)
+by-test m n false e = inr (ltb-false m n e)
+
+-- ---- a digit, by the distances of a byte from `0` and from `a`
+
+module _ (b : ℕ) (h : b < 256) where
+  pub digit-decimal : (b + 208) % 256 < 10 → (b + 208) % 256 ≡ digitOf b
+  unfolding digitOf
+  digit-decimal d =
+      let low : 48 ≤ b = omega arith in
+      let high : b ≤ 57 = omega arith in
+      let e : (b + 208) % 256 ≡ b - 48 = omega arith in
+      simp (le-ltb b 48 low, le-leb b 57 high) e
+
+  module _ (d : 10 ≤ (b + 208) % 256) where
+    pub digit-letter : (b + 159) % 256 < 6 → (b + 159) % 256 + 10 ≡ digitOf b
+    unfolding digitOf
+    digit-letter l =
+        let low : 97 ≤ b = omega arith in
+        let high : b ≤ 102 = omega arith in
+        let e : (b + 159) % 256 + 10 ≡ b - 97 + 10 = omega arith in
+        simp (le-ltb b 48 (omega arith), lt-leb b 57 (omega arith), le-ltb b 97 low, le-leb b 102 high) e
+
+    pub digit-none : 6 ≤ (b + 159) % 256 → 16 ≡ digitOf b
+    unfolding digitOf
+    digit-none l =
+        ⊎-elim
+        (λ (p : b < 48). simp (lt-ltb b 48 p))
+        (λ (p : 48 ≤ b). ⊎-elim
+        (λ (q : b < 97). simp (le-ltb b 48 p, lt-leb b 57 (omega arith), lt-ltb b 97 q))
+        (λ (q : 97 ≤ b). simp (le-ltb b 48 p, lt-leb b 57 (omega arith), le-ltb b 97 q, lt-leb b 102 (omega arith)))
+        (by-test b 97 (ltb b 97) refl))
+        (by-test b 48 (ltb b 48) refl)
 
 -- ---- reading
 

@@ -1,20 +1,14 @@
 -- What a user of the fields would state. Assumes nothing.
 use mathlib.Core.Path.{_≡_, refl, _∙_, sym}
-use mathlib.Core.Bool.{Bool, true, false}
 use mathlib.Core.List.{List}
-use mathlib.Core.Logic.{_⊎_, inl, inr, ⊎-elim}
+use mathlib.Core.Logic.{⊎-elim}
 use Prim.Native.Nat.{ℕ, zero, suc, _+_, _*_, _^_, _≤_, _<_}
 use native.Mathlib.Omega.{arith}
 use lib.Dec.{ltb}
 use lib.ListN.{getD}
-use borrow.Author.Tests.{ltb-true, ltb-false}
 use Rattle.hex.specs.Hex.{digitOf, fieldOf}
 use Rattle.hex.specs.declared.Field.the-variants.{Value, Malformed}
-use Rattle.hex.proofs.Digits.{bad-suc, good-suc, done-zero, digits-more}
-
-by-test : (m n : ℕ) (b : Bool) → ltb m n ≡ b → (m < n) ⊎ (n ≤ m)
-by-test m n true e = inl (ltb-true m n e)
-by-test m n false e = inr (ltb-false m n e)
+use Rattle.hex.proofs.Digits.{by-test, bad-suc, good-suc, done-zero, digits-more}
 
 -- n digits after digits of a value below 16 ^ j have a value below 16 ^ (j + n)
 pub field-below-after : (s : List ℕ) (n at j a v : ℕ) → a < 16 ^ j → fieldOf s at n a ≡ Value v → v < 16 ^ (j + n)

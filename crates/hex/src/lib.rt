@@ -10,23 +10,17 @@ pub enum Field {
     Malformed,
 }
 
-// The digit's value, and 16 of any other byte.
+// The digit's value, and 16 of any other byte. The distances from `0` and from `a` wrap at 256, so that one comparison tells each row of
+// digits, and nothing branches on the byte: digits and letters come in no order that a processor could foresee.
 fn digit(b: u8) -> u64
     ensures { λ r. ⌜ r ≡ digitOf b ⌝ }
 {
-    if b < b'0' {
-        return 16;
-    }
-    if b <= b'9' {
-        return (b - b'0') as u64;
-    }
-    if b < b'a' {
-        return 16;
-    }
-    if b <= b'f' {
-        return (b - b'a' + 10) as u64;
-    }
-    16
+    let x = b as u64;
+    let n = (x + 208) % 256;
+    let l = (x + 159) % 256;
+    let letter = l + 10;
+    let other = if l < 6 { letter } else { 16 };
+    if n < 10 { n } else { other }
 }
 
 // The n digits of s from at: at most 16, so that their value fits a word.

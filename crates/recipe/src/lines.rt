@@ -14,7 +14,7 @@ pub enum Line {
 }
 
 // The line of s that starts at the byte `at`.
-pub fn line_at(s: &[u8], at: usize) -> Line
+pub(crate) fn line_at(s: &[u8], at: usize) -> Line
     requires { ⌜ at + 39 ≤ length (now s) ⌝ }
     ensures { λ r. ⌜ r ≡ told (lineAt short (now (s .entry)) at) ⌝ }
 {

@@ -1,40 +1,28 @@
--- `digit` meets its contract, test by test. Assumes nothing.
-use borrow.Author.Tests.{lt-ltb, le-ltb, le-leb, lt-leb}
+-- `digit` meets its contract, by the row of digits that the byte stands in, or none. Assumes nothing.
+use mathlib.Core.Path.{_≡_, _∙_}
+use mathlib.Core.Logic.{⊎-elim}
+use Rattle.hex.proofs.Digits.{digit-decimal, digit-letter, digit-none}
 use borrow.Author.Needs.{needs}
-use Rattle.hex.specs.Hex.{digitOf}
 use Rattle.hex.proofs.digit.Statement.{statement}
 use Rattle.hex.proofs.digit.Tie as tie
 
-returns : tie.Need-returns
-unfolding digitOf
-returns c = simp (lt-ltb _ _ (c .if1 .taken))
+add-n : tie.Need-add-n
+add-n c = search needs
 
-cast-result : tie.Need-cast-result
-cast-result c = search needs
+add-l : tie.Need-add-l
+add-l c = search needs
+
+add-letter : tie.Need-add-letter
+add-letter c = search needs
+
+returns : tie.Need-returns
+returns c = digit-decimal (c .before .before .args .b) (c .before .before .fits .b .fits) (c .if2 .taken)
 
 returns-2 : tie.Need-returns-2
-unfolding digitOf
-returns-2 c = simp (le-ltb _ _ (c .before .if1 .left), le-leb _ _ (c .if2 .taken))
-
-returns-3 : tie.Need-returns-3
-unfolding digitOf
-returns-3 c = simp (le-ltb _ _ (c .before .before .if1 .left), lt-leb _ _ (c .before .if2 .left), lt-ltb _ _ (c .if3 .taken))
-
-add-result : tie.Need-add-result
-add-result c = search needs
-
-cast-result-2 : tie.Need-cast-result-2
-cast-result-2 c = search needs
-
-returns-4 : tie.Need-returns-4
-unfolding digitOf
-returns-4 c = simp (le-ltb _ _ (c .before .before .before .if1 .left), lt-leb _ _ (c .before .before .if2 .left), le-ltb _ _ (c .before .if3 .left), le-leb _ _ (c .if4 .taken))
-
-returns-5 : tie.Need-returns-5
-unfolding digitOf
-returns-5 c = simp (le-ltb _ _ (c .before .before .before .if1 .left), lt-leb _ _ (c .before .before .if2 .left), le-ltb _ _ (c .before .if3 .left), lt-leb _ _ (c .if4 .left))
+returns-2 c =
+    let b = c .before .before .args .b in
+    let h = c .before .before .fits .b .fits in
+    ⊎-elim (λ w. w .1 ∙ digit-letter b h (c .if2 .left) (w .0 .taken)) (λ w. w .1 ∙ digit-none b h (c .if2 .left) (w .0 .left)) (c .before .if1 .came)
 
 pub digit-spec : {M : Type 1} → statement M
-digit-spec =
-    tie.close
-    (tie.spec returns cast-result returns-2 returns-3 add-result cast-result-2 returns-4 returns-5)
+digit-spec = tie.close (tie.spec add-n add-l add-letter returns returns-2)

@@ -1,21 +1,60 @@
 -- `step_range` meets its contract, an arm at a time: what the arm's function ensures, at the arm's opcode. Assumes nothing.
 use mathlib.Core.Path.{_≡_, ap, _∙_}
-use Prim.Native.Nat.{_^_}
-use lib.Dec.{eqb, leb}
-use lib.IntN.{natAbs, _+ℤ_, _-ℤ_}
+use Prim.Native.Nat.{ℕ}
+use lib.IntN.{_+ℤ_, _-ℤ_}
 use mir.Syntax.{w64}
 use mir.Val.{ofZ, toZ}
-use Rattle.float_format.specs.Format.{binary64}
-use Rattle.float_format.specs.Rounding.{lroundRefusal, lroundValue}
-use Rattle.evaluation.specs.Value.{fitsWord, ofWhole}
-use Rattle.evaluation.specs.Range.{low, high, least, most, rangeRule}
+use Rattle.recipe.specs.declared.Step.{Step}
+use Rattle.evaluation.specs.Range.{Range, low, high, least, most, rangeRule, stepRange}
 use Rattle.evaluation.specs.Seen.{seenRange}
 use Rattle.evaluation.specs.Carried.{carried}
 use Rattle.evaluation.proofs.Rules.{bounded, unbounded}
-use Rattle.evaluation.proofs.Ends.{both-wholes, both-reals}
+use Rattle.evaluation.proofs.Ends.{lround-ranged, whole-ranged, double-ranged}
 use borrow.Author.Needs.{needs}
 use Rattle.evaluation.proofs.bounds.step_range.Statement.{statement}
 use Rattle.evaluation.proofs.bounds.step_range.Tie as tie
+
+-- ---- what was fetched before the match: the step, its operands' ranges, and their ends
+
+abbrev step : tie.After-most2 → Step
+step c = c .before .before .before .before .before .before .before .before .args .t
+
+abbrev a : tie.After-most2 → Range
+a c = seenRange (c .before .before .before .before .before .before .before .before .args .a)
+
+abbrev b : tie.After-most2 → Range
+b c = seenRange (c .before .before .before .before .before .before .before .before .args .b)
+
+low-is : (c : tie.After-most2) → c .before .before .before .before .before .before .before .low .result ≡ low (a c)
+low-is c = c .before .before .before .before .before .before .before .low .ensures
+
+high-is : (c : tie.After-most2) → c .before .before .before .before .before .before .high .result ≡ high (a c)
+high-is c = c .before .before .before .before .before .before .high .ensures
+
+low2-is : (c : tie.After-most2) → c .before .before .before .low2 .result ≡ low (b c)
+low2-is c = c .before .before .before .low2 .ensures
+
+high2-is : (c : tie.After-most2) → c .before .before .high2 .result ≡ high (b c)
+high2-is c = c .before .before .high2 .ensures
+
+-- a whole number is what its 64 bits stand for
+least-is : (c : tie.After-most2) → toZ w64 (ofZ w64 (c .before .before .before .before .before .least .result)) ≡ least (a c)
+least-is c = let i : toZ w64 (ofZ w64 (c .before .before .before .before .before .least .result)) ≡ c .before .before .before .before .before .least .result = search needs in i ∙ c .before .before .before .before .before .least .ensures
+
+most-is : (c : tie.After-most2) → toZ w64 (ofZ w64 (c .before .before .before .before .most .result)) ≡ most (a c)
+most-is c = let i : toZ w64 (ofZ w64 (c .before .before .before .before .most .result)) ≡ c .before .before .before .before .most .result = search needs in i ∙ c .before .before .before .before .most .ensures
+
+least2-is : (c : tie.After-most2) → toZ w64 (ofZ w64 (c .before .least2 .result)) ≡ least (b c)
+least2-is c = let i : toZ w64 (ofZ w64 (c .before .least2 .result)) ≡ c .before .least2 .result = search needs in i ∙ c .before .least2 .ensures
+
+most2-is : (c : tie.After-most2) → toZ w64 (ofZ w64 (c .most2 .result)) ≡ most (b c)
+most2-is c = let i : toZ w64 (ofZ w64 (c .most2 .result)) ≡ c .most2 .result = search needs in i ∙ c .most2 .ensures
+
+-- the rule at the arm's opcode is the step's
+arm : (c : tie.After-most2) {k : ℕ} → step c .opcode ≡ k → carried (rangeRule k (step c .p) (step c .q) (a c) (b c)) ≡ carried (stepRange (step c) (a c) (b c))
+arm c e = bounded (step c) (a c) (b c) e
+
+-- ---- the needs
 
 low-requires : tie.Need-low-requires
 low-requires c κs = search needs
@@ -214,86 +253,86 @@ between-requires-7 c κs = search needs
 
 returns : tie.Need-returns
 unfolding rangeRule
-returns c = (c .doubles-of .ensures .0 ∙ bounded (c .before .before .before .before .before .before .before .before .before .before .args .t) (seenRange (c .before .before .before .before .before .before .before .before .before .before .args .a)) (seenRange (c .before .before .before .before .before .before .before .before .before .before .args .b)) (c .before .match .keys1), c .doubles-of .ensures .1)
+returns c = (c .doubles-of .ensures .0 ∙ arm (c .before .before) (c .before .match .keys1), c .doubles-of .ensures .1)
 
 returns-2 : tie.Need-returns-2
 unfolding rangeRule
-returns-2 c = let i0 : toZ w64 (ofZ w64 (c .before .before .before .before .signed .result)) ≡ c .before .before .before .before .signed .result = search needs in let i1 : toZ w64 (ofZ w64 (c .before .before .signed2 .result)) ≡ c .before .before .signed2 .result = search needs in ((rw (c .before .before .before .whole-of .ensures .0, c .before .whole-of2 .ensures .0, i0, i1, c .before .before .before .before .signed .ensures, c .before .before .signed2 .ensures) at (c .between .ensures .0)) ∙ bounded (c .before .before .before .before .before .before .before .before .before .before .before .before .before .before .args .t) (seenRange (c .before .before .before .before .before .before .before .before .before .before .before .before .before .before .args .a)) (seenRange (c .before .before .before .before .before .before .before .before .before .before .before .before .before .before .args .b)) (c .before .before .before .before .before .match .keys2), c .between .ensures .1)
+returns-2 c = let i : toZ w64 (ofZ w64 (c .before .before .before .before .signed .result)) ≡ c .before .before .before .before .signed .result = search needs in let j : toZ w64 (ofZ w64 (c .before .before .signed2 .result)) ≡ c .before .before .signed2 .result = search needs in ((rw (c .before .before .before .whole-of .ensures .0, c .before .whole-of2 .ensures .0, i, j, c .before .before .before .before .signed .ensures, c .before .before .signed2 .ensures) at (c .between .ensures .0)) ∙ arm (c .before .before .before .before .before .before) (c .before .before .before .before .before .match .keys2), c .between .ensures .1)
 
 returns-3 : tie.Need-returns-3
 unfolding rangeRule
-returns-3 c = (c .doubles-of2 .ensures .0 ∙ bounded (c .before .before .before .before .before .before .before .before .before .before .args .t) (seenRange (c .before .before .before .before .before .before .before .before .before .before .args .a)) (seenRange (c .before .before .before .before .before .before .before .before .before .before .args .b)) (c .before .match .keys3), c .doubles-of2 .ensures .1)
+returns-3 c = (c .doubles-of2 .ensures .0 ∙ arm (c .before .before) (c .before .match .keys3), c .doubles-of2 .ensures .1)
 
 returns-4 : tie.Need-returns-4
 unfolding rangeRule
-returns-4 c = let i0 : toZ w64 (ofZ w64 (c .before .before .before .before .signed3 .result)) ≡ c .before .before .before .before .signed3 .result = search needs in let i1 : toZ w64 (ofZ w64 (c .before .before .signed4 .result)) ≡ c .before .before .signed4 .result = search needs in ((rw (c .before .before .before .whole-of3 .ensures .0, c .before .whole-of4 .ensures .0, i0, i1, c .before .before .before .before .signed3 .ensures, c .before .before .signed4 .ensures) at (c .between2 .ensures .0)) ∙ bounded (c .before .before .before .before .before .before .before .before .before .before .before .before .before .before .args .t) (seenRange (c .before .before .before .before .before .before .before .before .before .before .before .before .before .before .args .a)) (seenRange (c .before .before .before .before .before .before .before .before .before .before .before .before .before .before .args .b)) (c .before .before .before .before .before .match .keys4), c .between2 .ensures .1)
+returns-4 c = let i : toZ w64 (ofZ w64 (c .before .before .before .before .signed3 .result)) ≡ c .before .before .before .before .signed3 .result = search needs in let j : toZ w64 (ofZ w64 (c .before .before .signed4 .result)) ≡ c .before .before .signed4 .result = search needs in ((rw (c .before .before .before .whole-of3 .ensures .0, c .before .whole-of4 .ensures .0, i, j, c .before .before .before .before .signed3 .ensures, c .before .before .signed4 .ensures) at (c .between2 .ensures .0)) ∙ arm (c .before .before .before .before .before .before) (c .before .before .before .before .before .match .keys4), c .between2 .ensures .1)
 
 returns-5 : tie.Need-returns-5
 unfolding rangeRule
-returns-5 c = ((rw (c .before .before .floor .ensures, c .before .floor2 .ensures, c .before .before .before .before .before .before .before .before .before .before .before .low .ensures, c .before .before .before .before .before .before .before .before .before .before .high .ensures) at (c .doubles-of3 .ensures .0)) ∙ bounded (c .before .before .before .before .before .before .before .before .before .before .before .before .args .t) (seenRange (c .before .before .before .before .before .before .before .before .before .before .before .before .args .a)) (seenRange (c .before .before .before .before .before .before .before .before .before .before .before .before .args .b)) (c .before .before .before .match .keys5), c .doubles-of3 .ensures .1)
+returns-5 c = ((rw (c .before .before .floor .ensures, c .before .floor2 .ensures, low-is (c .before .before .before .before), high-is (c .before .before .before .before)) at (c .doubles-of3 .ensures .0)) ∙ arm (c .before .before .before .before) (c .before .before .before .match .keys5), c .doubles-of3 .ensures .1)
 
 returns-6 : tie.Need-returns-6
 unfolding rangeRule
-returns-6 c = ((rw (c .before .before .ceil .ensures, c .before .ceil2 .ensures, c .before .before .before .before .before .before .before .before .before .before .before .low .ensures, c .before .before .before .before .before .before .before .before .before .before .high .ensures) at (c .doubles-of4 .ensures .0)) ∙ bounded (c .before .before .before .before .before .before .before .before .before .before .before .before .args .t) (seenRange (c .before .before .before .before .before .before .before .before .before .before .before .before .args .a)) (seenRange (c .before .before .before .before .before .before .before .before .before .before .before .before .args .b)) (c .before .before .before .match .keys6), c .doubles-of4 .ensures .1)
+returns-6 c = ((rw (c .before .before .ceil .ensures, c .before .ceil2 .ensures, low-is (c .before .before .before .before), high-is (c .before .before .before .before)) at (c .doubles-of4 .ensures .0)) ∙ arm (c .before .before .before .before) (c .before .before .before .match .keys6), c .doubles-of4 .ensures .1)
 
 returns-7 : tie.Need-returns-7
 unfolding rangeRule
-returns-7 c = ((rw (c .before .before .trunc .ensures, c .before .trunc2 .ensures, c .before .before .before .before .before .before .before .before .before .before .before .low .ensures, c .before .before .before .before .before .before .before .before .before .before .high .ensures) at (c .doubles-of5 .ensures .0)) ∙ bounded (c .before .before .before .before .before .before .before .before .before .before .before .before .args .t) (seenRange (c .before .before .before .before .before .before .before .before .before .before .before .before .args .a)) (seenRange (c .before .before .before .before .before .before .before .before .before .before .before .before .args .b)) (c .before .before .before .match .keys7), c .doubles-of5 .ensures .1)
+returns-7 c = ((rw (c .before .before .trunc .ensures, c .before .trunc2 .ensures, low-is (c .before .before .before .before), high-is (c .before .before .before .before)) at (c .doubles-of5 .ensures .0)) ∙ arm (c .before .before .before .before) (c .before .before .before .match .keys7), c .doubles-of5 .ensures .1)
 
 returns-8 : tie.Need-returns-8
 unfolding rangeRule
-returns-8 c = ((rw (c .before .before .round .ensures, c .before .round2 .ensures, c .before .before .before .before .before .before .before .before .before .before .before .low .ensures, c .before .before .before .before .before .before .before .before .before .before .high .ensures) at (c .doubles-of6 .ensures .0)) ∙ bounded (c .before .before .before .before .before .before .before .before .before .before .before .before .args .t) (seenRange (c .before .before .before .before .before .before .before .before .before .before .before .before .args .a)) (seenRange (c .before .before .before .before .before .before .before .before .before .before .before .before .args .b)) (c .before .before .before .match .keys8), c .doubles-of6 .ensures .1)
+returns-8 c = ((rw (c .before .before .round .ensures, c .before .round2 .ensures, low-is (c .before .before .before .before), high-is (c .before .before .before .before)) at (c .doubles-of6 .ensures .0)) ∙ arm (c .before .before .before .before) (c .before .before .before .match .keys8), c .doubles-of6 .ensures .1)
 
 returns-9 : tie.Need-returns-9
 unfolding rangeRule
-returns-9 c = ((rw (c .before .before .nearbyint .ensures, c .before .nearbyint2 .ensures, c .before .before .before .before .before .before .before .before .before .before .before .low .ensures, c .before .before .before .before .before .before .before .before .before .before .high .ensures) at (c .doubles-of7 .ensures .0)) ∙ bounded (c .before .before .before .before .before .before .before .before .before .before .before .before .args .t) (seenRange (c .before .before .before .before .before .before .before .before .before .before .before .before .args .a)) (seenRange (c .before .before .before .before .before .before .before .before .before .before .before .before .args .b)) (c .before .before .before .match .keys9), c .doubles-of7 .ensures .1)
+returns-9 c = ((rw (c .before .before .nearbyint .ensures, c .before .nearbyint2 .ensures, low-is (c .before .before .before .before), high-is (c .before .before .before .before)) at (c .doubles-of7 .ensures .0)) ∙ arm (c .before .before .before .before) (c .before .before .before .match .keys9), c .doubles-of7 .ensures .1)
 
 returns-10 : tie.Need-returns-10
 unfolding rangeRule
-returns-10 c = ((rw (c .before .before .fraction-low .ensures, c .before .fraction-high .ensures, c .before .before .before .before .before .before .before .before .before .before .before .low .ensures, c .before .before .before .before .before .before .before .before .before .before .high .ensures) at (c .doubles-of8 .ensures .0)) ∙ bounded (c .before .before .before .before .before .before .before .before .before .before .before .before .args .t) (seenRange (c .before .before .before .before .before .before .before .before .before .before .before .before .args .a)) (seenRange (c .before .before .before .before .before .before .before .before .before .before .before .before .args .b)) (c .before .before .before .match .keys10), c .doubles-of8 .ensures .1)
+returns-10 c = ((rw (c .before .before .fraction-low .ensures, c .before .fraction-high .ensures, low-is (c .before .before .before .before), high-is (c .before .before .before .before)) at (c .doubles-of8 .ensures .0)) ∙ arm (c .before .before .before .before) (c .before .before .before .match .keys10), c .doubles-of8 .ensures .1)
 
 returns-11 : tie.Need-returns-11
 unfolding rangeRule
-returns-11 c = ((rw (c .before .before .before .before .before .before .before .before .before .low .ensures, c .before .before .before .before .before .before .before .before .high .ensures) at (c .absolute-range .ensures .0)) ∙ bounded (c .before .before .before .before .before .before .before .before .before .before .args .t) (seenRange (c .before .before .before .before .before .before .before .before .before .before .args .a)) (seenRange (c .before .before .before .before .before .before .before .before .before .before .args .b)) (c .before .match .keys11), c .absolute-range .ensures .1)
+returns-11 c = ((rw (low-is (c .before .before), high-is (c .before .before)) at (c .absolute-range .ensures .0)) ∙ arm (c .before .before) (c .before .match .keys11), c .absolute-range .ensures .1)
 
 returns-12 : tie.Need-returns-12
 unfolding rangeRule
-returns-12 c = ((rw (c .before .before .negate .ensures, c .before .negate2 .ensures, c .before .before .before .before .before .before .before .before .before .before .before .low .ensures, c .before .before .before .before .before .before .before .before .before .before .high .ensures) at (c .doubles-of9 .ensures .0)) ∙ bounded (c .before .before .before .before .before .before .before .before .before .before .before .before .args .t) (seenRange (c .before .before .before .before .before .before .before .before .before .before .before .before .args .a)) (seenRange (c .before .before .before .before .before .before .before .before .before .before .before .before .args .b)) (c .before .before .before .match .keys12), c .doubles-of9 .ensures .1)
+returns-12 c = ((rw (c .before .before .negate .ensures, c .before .negate2 .ensures, low-is (c .before .before .before .before), high-is (c .before .before .before .before)) at (c .doubles-of9 .ensures .0)) ∙ arm (c .before .before .before .before) (c .before .before .before .match .keys12), c .doubles-of9 .ensures .1)
 
 returns-13 : tie.Need-returns-13
 unfolding rangeRule
-returns-13 c = ((rw (c .before .before .lround-of .ensures .0, c .before .lround-of2 .ensures .0, c .before .before .before .before .before .before .before .before .before .before .before .low .ensures, c .before .before .before .before .before .before .before .before .before .before .high .ensures) at (c .between3 .ensures .0)) ∙ both-wholes (eqb (lroundRefusal binary64 (low (seenRange (c .before .before .before .before .before .before .before .before .before .before .before .before .args .a)))) 0) (eqb (lroundRefusal binary64 (high (seenRange (c .before .before .before .before .before .before .before .before .before .before .before .before .args .a)))) 0) (lroundValue binary64 (low (seenRange (c .before .before .before .before .before .before .before .before .before .before .before .before .args .a)))) (lroundValue binary64 (high (seenRange (c .before .before .before .before .before .before .before .before .before .before .before .before .args .a)))) 21 ∙ bounded (c .before .before .before .before .before .before .before .before .before .before .before .before .args .t) (seenRange (c .before .before .before .before .before .before .before .before .before .before .before .before .args .a)) (seenRange (c .before .before .before .before .before .before .before .before .before .before .before .before .args .b)) (c .before .before .before .match .keys13), c .between3 .ensures .1)
+returns-13 c = (c .between3 .ensures .0 ∙ lround-ranged (a (c .before .before .before .before)) _ _ (rw (low-is (c .before .before .before .before)) at (c .before .before .lround-of .ensures .0)) (rw (high-is (c .before .before .before .before)) at (c .before .lround-of2 .ensures .0)) ∙ arm (c .before .before .before .before) (c .before .before .before .match .keys13), c .between3 .ensures .1)
 
 returns-14 : tie.Need-returns-14
 unfolding rangeRule
-returns-14 c = ((rw (c .before .before .fmin .ensures, c .before .fmin2 .ensures, c .before .before .before .before .before .before .before .before .before .before .before .low .ensures, c .before .before .before .before .before .before .before .before .before .before .high .ensures, c .before .before .before .before .before .before .before .low2 .ensures, c .before .before .before .before .before .before .high2 .ensures) at (c .doubles-of10 .ensures .0)) ∙ bounded (c .before .before .before .before .before .before .before .before .before .before .before .before .args .t) (seenRange (c .before .before .before .before .before .before .before .before .before .before .before .before .args .a)) (seenRange (c .before .before .before .before .before .before .before .before .before .before .before .before .args .b)) (c .before .before .before .match .keys14), c .doubles-of10 .ensures .1)
+returns-14 c = ((rw (c .before .before .fmin .ensures, c .before .fmin2 .ensures, low-is (c .before .before .before .before), high-is (c .before .before .before .before), low2-is (c .before .before .before .before), high2-is (c .before .before .before .before)) at (c .doubles-of10 .ensures .0)) ∙ arm (c .before .before .before .before) (c .before .before .before .match .keys14), c .doubles-of10 .ensures .1)
 
 returns-15 : tie.Need-returns-15
 unfolding rangeRule
-returns-15 c = ((rw (c .before .before .fmax .ensures, c .before .fmax2 .ensures, c .before .before .before .before .before .before .before .before .before .before .before .low .ensures, c .before .before .before .before .before .before .before .before .before .before .high .ensures, c .before .before .before .before .before .before .before .low2 .ensures, c .before .before .before .before .before .before .high2 .ensures) at (c .doubles-of11 .ensures .0)) ∙ bounded (c .before .before .before .before .before .before .before .before .before .before .before .before .args .t) (seenRange (c .before .before .before .before .before .before .before .before .before .before .before .before .args .a)) (seenRange (c .before .before .before .before .before .before .before .before .before .before .before .before .args .b)) (c .before .before .before .match .keys15), c .doubles-of11 .ensures .1)
+returns-15 c = ((rw (c .before .before .fmax .ensures, c .before .fmax2 .ensures, low-is (c .before .before .before .before), high-is (c .before .before .before .before), low2-is (c .before .before .before .before), high2-is (c .before .before .before .before)) at (c .doubles-of11 .ensures .0)) ∙ arm (c .before .before .before .before) (c .before .before .before .match .keys15), c .doubles-of11 .ensures .1)
 
 returns-16 : tie.Need-returns-16
 unfolding rangeRule
-returns-16 c = ((rw (c .before .before .before .before .before .before .before .before .before .low .ensures, c .before .before .before .before .before .before .before .before .high .ensures, c .before .before .before .before .before .low2 .ensures, c .before .before .before .before .high2 .ensures) at (c .fmod-range .ensures .0)) ∙ bounded (c .before .before .before .before .before .before .before .before .before .before .args .t) (seenRange (c .before .before .before .before .before .before .before .before .before .before .args .a)) (seenRange (c .before .before .before .before .before .before .before .before .before .before .args .b)) (c .before .match .keys16), c .fmod-range .ensures .1)
+returns-16 c = ((rw (low-is (c .before .before), high-is (c .before .before), low2-is (c .before .before), high2-is (c .before .before)) at (c .fmod-range .ensures .0)) ∙ arm (c .before .before) (c .before .match .keys16), c .fmod-range .ensures .1)
 
 returns-17 : tie.Need-returns-17
 unfolding rangeRule
-returns-17 c = let i0 : toZ w64 (ofZ w64 (c .before .before .before .least2 .result)) ≡ c .before .before .before .least2 .result = search needs in let i1 : toZ w64 (ofZ w64 (c .before .before .most2 .result)) ≡ c .before .before .most2 .result = search needs in ((rw (i0, i1, c .before .before .before .before .before .before .before .before .before .low .ensures, c .before .before .before .before .before .before .before .before .high .ensures, c .before .before .before .least2 .ensures, c .before .before .most2 .ensures) at (c .ldexp-range .ensures .0)) ∙ bounded (c .before .before .before .before .before .before .before .before .before .before .args .t) (seenRange (c .before .before .before .before .before .before .before .before .before .before .args .a)) (seenRange (c .before .before .before .before .before .before .before .before .before .before .args .b)) (c .before .match .keys17), c .ldexp-range .ensures .1)
+returns-17 c = ((rw (low-is (c .before .before), high-is (c .before .before), least2-is (c .before .before), most2-is (c .before .before)) at (c .ldexp-range .ensures .0)) ∙ arm (c .before .before) (c .before .match .keys17), c .ldexp-range .ensures .1)
 
 returns-18 : tie.Need-returns-18
 unfolding rangeRule
-returns-18 c = let i0 : toZ w64 (ofZ w64 (c .before .before .before .before .before .before .before .before .before .least .result)) ≡ c .before .before .before .before .before .before .before .before .before .least .result = search needs in let i1 : toZ w64 (ofZ w64 (c .before .before .before .before .before .before .before .before .most .result)) ≡ c .before .before .before .before .before .before .before .before .most .result = search needs in let i2 : toZ w64 (ofZ w64 (c .before .before .before .before .before .least2 .result)) ≡ c .before .before .before .before .before .least2 .result = search needs in let i3 : toZ w64 (ofZ w64 (c .before .before .before .before .most2 .result)) ≡ c .before .before .before .before .most2 .result = search needs in ((rw (c .before .before .sum-of .ensures .0, c .before .sum-of2 .ensures .0, i0, i1, i2, i3, c .before .before .before .before .before .before .before .before .before .least .ensures, c .before .before .before .before .before .before .before .before .most .ensures, c .before .before .before .before .before .least2 .ensures, c .before .before .before .before .most2 .ensures) at (c .between4 .ensures .0)) ∙ both-wholes (fitsWord (least (seenRange (c .before .before .before .before .before .before .before .before .before .before .before .before .args .a)) +ℤ least (seenRange (c .before .before .before .before .before .before .before .before .before .before .before .before .args .b)))) (fitsWord (most (seenRange (c .before .before .before .before .before .before .before .before .before .before .before .before .args .a)) +ℤ most (seenRange (c .before .before .before .before .before .before .before .before .before .before .before .before .args .b)))) (least (seenRange (c .before .before .before .before .before .before .before .before .before .before .before .before .args .a)) +ℤ least (seenRange (c .before .before .before .before .before .before .before .before .before .before .before .before .args .b))) (most (seenRange (c .before .before .before .before .before .before .before .before .before .before .before .before .args .a)) +ℤ most (seenRange (c .before .before .before .before .before .before .before .before .before .before .before .before .args .b))) 21 ∙ bounded (c .before .before .before .before .before .before .before .before .before .before .before .before .args .t) (seenRange (c .before .before .before .before .before .before .before .before .before .before .before .before .args .a)) (seenRange (c .before .before .before .before .before .before .before .before .before .before .before .before .args .b)) (c .before .before .before .match .keys18), c .between4 .ensures .1)
+returns-18 c = (c .between4 .ensures .0 ∙ whole-ranged (least (a (c .before .before .before .before)) +ℤ least (b (c .before .before .before .before))) (most (a (c .before .before .before .before)) +ℤ most (b (c .before .before .before .before))) _ _ (rw (least-is (c .before .before .before .before), least2-is (c .before .before .before .before)) at (c .before .before .sum-of .ensures .0)) (rw (most-is (c .before .before .before .before), most2-is (c .before .before .before .before)) at (c .before .sum-of2 .ensures .0)) ∙ arm (c .before .before .before .before) (c .before .before .before .match .keys18), c .between4 .ensures .1)
 
 returns-19 : tie.Need-returns-19
 unfolding rangeRule
-returns-19 c = let i0 : toZ w64 (ofZ w64 (c .before .before .before .before .before .before .before .before .before .least .result)) ≡ c .before .before .before .before .before .before .before .before .before .least .result = search needs in let i1 : toZ w64 (ofZ w64 (c .before .before .before .before .before .before .before .before .most .result)) ≡ c .before .before .before .before .before .before .before .before .most .result = search needs in let i2 : toZ w64 (ofZ w64 (c .before .before .before .before .before .least2 .result)) ≡ c .before .before .before .before .before .least2 .result = search needs in let i3 : toZ w64 (ofZ w64 (c .before .before .before .before .most2 .result)) ≡ c .before .before .before .before .most2 .result = search needs in ((rw (c .before .before .difference-of .ensures .0, c .before .difference-of2 .ensures .0, i0, i1, i2, i3, c .before .before .before .before .before .before .before .before .before .least .ensures, c .before .before .before .before .before .before .before .before .most .ensures, c .before .before .before .before .before .least2 .ensures, c .before .before .before .before .most2 .ensures) at (c .between5 .ensures .0)) ∙ both-wholes (fitsWord (least (seenRange (c .before .before .before .before .before .before .before .before .before .before .before .before .args .a)) -ℤ most (seenRange (c .before .before .before .before .before .before .before .before .before .before .before .before .args .b)))) (fitsWord (most (seenRange (c .before .before .before .before .before .before .before .before .before .before .before .before .args .a)) -ℤ least (seenRange (c .before .before .before .before .before .before .before .before .before .before .before .before .args .b)))) (least (seenRange (c .before .before .before .before .before .before .before .before .before .before .before .before .args .a)) -ℤ most (seenRange (c .before .before .before .before .before .before .before .before .before .before .before .before .args .b))) (most (seenRange (c .before .before .before .before .before .before .before .before .before .before .before .before .args .a)) -ℤ least (seenRange (c .before .before .before .before .before .before .before .before .before .before .before .before .args .b))) 21 ∙ bounded (c .before .before .before .before .before .before .before .before .before .before .before .before .args .t) (seenRange (c .before .before .before .before .before .before .before .before .before .before .before .before .args .a)) (seenRange (c .before .before .before .before .before .before .before .before .before .before .before .before .args .b)) (c .before .before .before .match .keys19), c .between5 .ensures .1)
+returns-19 c = (c .between5 .ensures .0 ∙ whole-ranged (least (a (c .before .before .before .before)) -ℤ most (b (c .before .before .before .before))) (most (a (c .before .before .before .before)) -ℤ least (b (c .before .before .before .before))) _ _ (rw (least-is (c .before .before .before .before), most2-is (c .before .before .before .before)) at (c .before .before .difference-of .ensures .0)) (rw (most-is (c .before .before .before .before), least2-is (c .before .before .before .before)) at (c .before .difference-of2 .ensures .0)) ∙ arm (c .before .before .before .before) (c .before .before .before .match .keys19), c .between5 .ensures .1)
 
 returns-20 : tie.Need-returns-20
 unfolding rangeRule
-returns-20 c = let i0 : toZ w64 (ofZ w64 (c .before .before .before .before .before .before .before .before .before .least .result)) ≡ c .before .before .before .before .before .before .before .before .before .least .result = search needs in let i1 : toZ w64 (ofZ w64 (c .before .before .before .before .before .before .before .before .most .result)) ≡ c .before .before .before .before .before .before .before .before .most .result = search needs in ((rw (c .before .before .double-of .ensures .0, c .before .double-of2 .ensures .0, i0, i1, c .before .before .before .before .before .before .before .before .before .least .ensures, c .before .before .before .before .before .before .before .before .most .ensures) at (c .between6 .ensures .0)) ∙ both-reals (leb (natAbs (least (seenRange (c .before .before .before .before .before .before .before .before .before .before .before .before .args .a)))) (2 ^ 53)) (leb (natAbs (most (seenRange (c .before .before .before .before .before .before .before .before .before .before .before .before .args .a)))) (2 ^ 53)) (ofWhole (least (seenRange (c .before .before .before .before .before .before .before .before .before .before .before .before .args .a)))) (ofWhole (most (seenRange (c .before .before .before .before .before .before .before .before .before .before .before .before .args .a)))) 22 ∙ bounded (c .before .before .before .before .before .before .before .before .before .before .before .before .args .t) (seenRange (c .before .before .before .before .before .before .before .before .before .before .before .before .args .a)) (seenRange (c .before .before .before .before .before .before .before .before .before .before .before .before .args .b)) (c .before .before .before .match .keys20), c .between6 .ensures .1)
+returns-20 c = (c .between6 .ensures .0 ∙ double-ranged (a (c .before .before .before .before)) _ _ (rw (least-is (c .before .before .before .before)) at (c .before .before .double-of .ensures .0)) (rw (most-is (c .before .before .before .before)) at (c .before .double-of2 .ensures .0)) ∙ arm (c .before .before .before .before) (c .before .before .before .match .keys20), c .between6 .ensures .1)
 
 returns-21 : tie.Need-returns-21
-returns-21 c = ((rw (c .before .before .whole-of5 .ensures .0, c .before .whole-of6 .ensures .0) at (c .between7 .ensures .0)) ∙ ap carried (unbounded (c .before .before .before .before .before .before .before .before .before .before .before .before .args .t) (seenRange (c .before .before .before .before .before .before .before .before .before .before .before .before .args .a)) (seenRange (c .before .before .before .before .before .before .before .before .before .before .before .before .args .b)) (c .before .before .before .match .rest)), c .between7 .ensures .1)
+returns-21 c = ((rw (c .before .before .whole-of5 .ensures .0, c .before .whole-of6 .ensures .0) at (c .between7 .ensures .0)) ∙ ap carried (unbounded (step (c .before .before .before .before)) (a (c .before .before .before .before)) (b (c .before .before .before .before)) (c .before .before .before .match .rest)), c .between7 .ensures .1)
 
 pub step-range-spec : {M : Type 1} → statement M
 step-range-spec =
