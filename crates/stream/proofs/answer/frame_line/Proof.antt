@@ -1,0 +1,49 @@
+-- `frame_line` meets its contract, by the line's length. Assumes nothing.
+use mathlib.Core.Path.{_∙_, sym, ap}
+use denote.Ref.{now}
+use borrow.Author.Needs.{needs}
+use Rattle.stream.specs.Output.{answerLine}
+use Rattle.stream.proofs.Written.{frame-long, frame-short}
+use Rattle.stream.proofs.answer.frame_line.Statement.{statement}
+use Rattle.stream.proofs.answer.frame_line.Tie as tie
+
+refusal-line-requires : tie.Need-refusal-line-requires
+refusal-line-requires c κs = search needs
+
+same-length : tie.Need-same-length
+same-length c = search needs
+
+returns : tie.Need-returns
+returns c = (c .before .before .refusal-line .ensures .0, λ t g. c .before .before .refusal-line .ensures .1 ∙ sym (frame-long t (now (c .before .before .before .before .before .before .before .args .line)) (c .before .before .before .before .if1 .taken)))
+
+slice-aggregate-run-recipe : tie.Need-slice-aggregate-run-recipe
+slice-aggregate-run-recipe c = search needs
+
+run-recipe-requires : tie.Need-run-recipe-requires
+run-recipe-requires c κs = search needs
+
+answer-line-requires : tie.Need-answer-line-requires
+answer-line-requires c κs = search needs
+
+same-length-2 : tie.Need-same-length-2
+same-length-2 c = search needs
+
+returns-2 : tie.Need-returns-2
+returns-2 c =
+    let line = now (c .before .before .before .before .before .before .before .before .before .before .args .line) in (
+      c .before .before .answer-line .ensures .0,
+      λ t g. c .before .before .answer-line .ensures .1 ∙ ap answerLine (c .before .before .before .before .before .run-recipe .ensures .0 t g .0) ∙ sym (frame-short t line (c .before .before .before .before .before .before .before .if1 .left)),
+    )
+
+pub frame-line-spec : {M : Type 1} → statement M
+frame-line-spec =
+    tie.close
+    (tie.spec
+    refusal-line-requires
+    same-length
+    returns
+    slice-aggregate-run-recipe
+    run-recipe-requires
+    answer-line-requires
+    same-length-2
+    returns-2)

@@ -1,0 +1,48 @@
+-- `read_recipe` meets its contract, by the recipe's refusal. Assumes nothing.
+use mathlib.Core.Path.{sym, _∙_}
+use mathlib.Core.List.{[]}
+use native.Mathlib.Omega.{arith}
+use lib.ListN.{take}
+use lib.Seq.{length-take-le}
+use denote.Ref.{now}
+use borrow.Author.Needs.{needs}
+use Rattle.stream.proofs.Stages.{recipe-refused, recipe-passed}
+use Rattle.stream.proofs.read_recipe.Statement.{statement}
+use Rattle.stream.proofs.read_recipe.Tie as tie
+
+slice-aggregate-read : tie.Need-slice-aggregate-read
+slice-aggregate-read c = sym (length-take-le (c .before .before .before .args .n) (now (c .before .before .before .args .buffer)) (omega arith))
+
+read-requires : tie.Need-read-requires
+read-requires c κs = search needs
+
+refusal-line-requires : tie.Need-refusal-line-requires
+refusal-line-requires c κs = search needs
+
+same-length : tie.Need-same-length
+same-length c = search needs
+
+returns : tie.Need-returns
+returns c =
+    let a = c .before .before .before .before .before .before .before .before .before .before .args in
+    let t = take (a .n) (now (a .buffer)) in
+    let r = c .before .before .before .before .before .before .read .result in
+    (c .before .before .refusal-line .ensures .0, c .before .before .before .before .before .before .read .ensures, c .before .before .refusal-line .ensures .1 ∙ sym (recipe-refused t r (c .before .before .before .before .before .before .read .ensures) [] (c .before .before .before .before .if1 .taken)))
+
+returns-2 : tie.Need-returns-2
+returns-2 c =
+    let a = c .before .before .before .before .before .before .args in
+    let t = take (a .n) (now (a .buffer)) in
+    let r = c .before .before .read .result in
+    (omega arith, c .before .before .read .ensures, sym (recipe-passed t r (c .before .before .read .ensures) [] (c .if1 .left)))
+
+pub read-recipe-spec : {M : Type 1} → statement M
+read-recipe-spec =
+    tie.close
+    (tie.spec
+    slice-aggregate-read
+    read-requires
+    refusal-line-requires
+    same-length
+    returns
+    returns-2)

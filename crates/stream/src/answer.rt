@@ -1,0 +1,54 @@
+// Lines of output: a refusal's, and the answer to a frame.
+ghost use mathlib.Core.Path.{_≡_};
+ghost use mathlib.Core.List.{List};
+ghost use Prim.Native.Nat.{ℕ, _≤_};
+ghost use lib.ListN.{length, take};
+ghost use Rattle.recipe.specs.Text.{short, readText};
+ghost use Rattle.recipe.specs.Answer.{Says};
+ghost use Rattle.stream.specs.Output.{refusalLine, answerLine, frameLine};
+ghost use Rattle.stream.specs.Stage.{Put};
+use evaluation::RunAnswer;
+use evaluation::run_recipe;
+use recipe::Recipe;
+
+// The bytes of the longest line, with its line feed.
+pub const LINE: usize = 19;
+
+// Writes a refusal line at the start of out, and answers its length.
+pub fn refusal_line(number: u64, place: u64, out: &mut [u8]) -> usize
+    requires { ⌜ 19 ≤ length (now out) ⌝ }
+    ensures { λ r. ⌜ Put (refusalLine number place) r (now (out .exit)) ⌝ }
+{
+    hex::write(0xff, &mut out[..2]);
+    hex::write(number, &mut out[2..4]);
+    hex::write(place, &mut out[4..6]);
+    out[6] = b'\n';
+    7
+}
+
+// The same of a run's answer: kind and word, or a refusal line.
+fn answer_line(a: RunAnswer, out: &mut [u8]) -> usize
+    requires { ⌜ 19 ≤ length (now out) ⌝ }
+    ensures { λ r. ⌜ Put (answerLine a) r (now (out .exit)) ⌝ }
+{
+    if a.refusal != 0 {
+        return refusal_line(a.refusal, a.place, out);
+    }
+    hex::write(a.kind, &mut out[..2]);
+    hex::write(a.word, &mut out[2..18]);
+    out[18] = b'\n';
+    LINE
+}
+
+// The same of a frame line, its line feed left out. Refuses 30 where it is longer than the longest frame.
+pub fn frame_line(recipe: Recipe, line: &[u8], out: &mut [u8]) -> usize
+    requires { ⌜ 19 ≤ length (now out) ⌝ }
+    ensures { λ r. ⌜ (r ≤ 19) × ((t : List ℕ) → Says (readText short t) recipe → take r (now (out .exit)) ≡ frameLine t (now (line .entry))) ⌝ }
+{
+    if line.len() > 256 {
+        return refusal_line(30, 0, out);
+    }
+    let mut words = [0u64; 128];
+    let a = run_recipe(recipe, line, &mut words);
+    answer_line(a, out)
+}
