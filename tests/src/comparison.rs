@@ -5,7 +5,7 @@ use crate::answer::Answer;
 use crate::functions::{Function, FORMATS, FUNCTIONS};
 use crate::reference::Format;
 use std::fmt;
-use std::sync::atomic::{AtomicUsize, Ordering};
+use std::sync::atomic::{AtomicU64, Ordering};
 use std::sync::Mutex;
 use std::thread;
 
@@ -58,23 +58,46 @@ pub fn check_every_function<D: fmt::Display + Send>(
         .iter()
         .flat_map(|function| FORMATS.iter().map(move |format| (function, format)))
         .collect();
-    let next = AtomicUsize::new(0);
-    let found = Mutex::new(Vec::new());
+    let join = |all: &mut Vec<String>, found| all.extend(found);
+    let found = on_all_cores(jobs.len() as u64, join, |job, found| {
+        let (function, format) = jobs[job as usize];
+        found.extend(check(function, format).map(|difference| difference.to_string()));
+        None
+    });
+    assert!(found.is_empty(), "differences:\n{}", found.join("\n"));
+}
+
+/// Goes through so many jobs, or seeds, on all cores. `work` counts, and gives what is wrong, if
+/// anything is: then the test stops.
+pub fn on_all_cores<C: Default + Send>(
+    jobs: u64,
+    join: fn(&mut C, C),
+    work: impl Fn(u64, &mut C) -> Option<String> + Sync,
+) -> C {
+    let next = AtomicU64::new(0);
+    let all = Mutex::new((C::default(), Vec::new()));
+    let core = || {
+        let (mut counts, mut found) = (C::default(), None);
+        while found.is_none() {
+            let job = next.fetch_add(1, Ordering::Relaxed);
+            if job >= jobs {
+                break;
+            }
+            found = work(job, &mut counts);
+        }
+        let mut all = all.lock().unwrap();
+        join(&mut all.0, counts);
+        all.1.extend(found);
+    };
     let cores = thread::available_parallelism().map_or(1, |cores| cores.get());
     thread::scope(|scope| {
         for _ in 0..cores {
-            scope.spawn(|| {
-                while let Some((function, format)) = jobs.get(next.fetch_add(1, Ordering::Relaxed))
-                {
-                    if let Some(difference) = check(function, format) {
-                        found.lock().unwrap().push(difference.to_string());
-                    }
-                }
-            });
+            scope.spawn(core);
         }
     });
-    let found = found.into_inner().unwrap();
-    assert!(found.is_empty(), "differences:\n{}", found.join("\n"));
+    let (counts, found) = all.into_inner().unwrap();
+    assert!(found.is_empty(), "differences:\n{}", found.join("\n\n"));
+    counts
 }
 
 #[cfg(test)]

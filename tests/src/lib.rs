@@ -14,6 +14,7 @@ pub mod library;
 pub mod operands;
 pub mod pairs;
 pub mod patterns;
+pub mod programs;
 pub mod recipes;
 pub mod reference;
 pub mod scalings;

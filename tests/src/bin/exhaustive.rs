@@ -5,14 +5,13 @@
 //!
 //! Ends with one line that says how much was compared; exit status 1 where anything differed.
 
-use estrenwind_tests::comparison::first_difference;
+use estrenwind_tests::comparison::{first_difference, on_all_cores};
 use estrenwind_tests::functions::{Function, FUNCTIONS};
 use estrenwind_tests::operands::Operands;
 use estrenwind_tests::reference::BINARY32;
 use std::env;
 use std::process::ExitCode;
 use std::sync::atomic::{AtomicU64, Ordering};
-use std::thread;
 
 const PATTERNS: u64 = 1 << 32;
 
@@ -50,14 +49,9 @@ const PORTION: u64 = 1 << 20;
 
 fn compare(slice: Slice, functions: &[&Function]) -> (u64, u64) {
     let portions = slice.rows().div_ceil(PORTION);
-    let next = AtomicU64::new(0);
-    let compared = AtomicU64::new(0);
     let differing = AtomicU64::new(0);
-    let work = || loop {
-        let portion = next.fetch_add(1, Ordering::Relaxed);
-        if portion >= portions {
-            break;
-        }
+    let join = |all: &mut u64, compared| *all += compared;
+    let compared = on_all_cores(portions, join, |portion, compared| {
         let rows = portion * PORTION..slice.rows().min((portion + 1) * PORTION);
         let patterns = || rows.clone().filter_map(|row| slice.pattern(row));
         for function in functions {
@@ -68,18 +62,13 @@ fn compare(slice: Slice, functions: &[&Function]) -> (u64, u64) {
                 }
             }
         }
-        compared.fetch_add(patterns().count() as u64, Ordering::Relaxed);
+        *compared += patterns().count() as u64;
         if portion % 64 == 63 {
             eprintln!("{} of {portions} portions", portion + 1);
         }
-    };
-    let cores = thread::available_parallelism().map_or(1, |cores| cores.get());
-    thread::scope(|scope| {
-        for _ in 0..cores {
-            scope.spawn(work);
-        }
+        None
     });
-    (compared.into_inner(), differing.into_inner())
+    (compared, differing.into_inner())
 }
 
 fn main() -> ExitCode {

@@ -9,7 +9,7 @@
 
 use estrenwind_tests::patterns::Random;
 use estrenwind_tests::recipes::growing::{grow, grow_sheet, Plan};
-use estrenwind_tests::recipes::{Call, SheetCall};
+use estrenwind_tests::recipes::{RunCall, SheetCall};
 use estrenwind_tests::{interpreter, library};
 use std::hint::black_box;
 use std::process::ExitCode;
@@ -97,9 +97,9 @@ fn race<C>(
 
 fn race_runs(ordinary: bool) -> [Times; 4] {
     let mut random = Random::new(41);
-    let calls: [Vec<Call>; 4] = STEPS.map(|steps| {
+    let calls: [Vec<RunCall>; 4] = STEPS.map(|steps| {
         let plan = plan(steps, ordinary);
-        let mut call = || grow(&mut random, &plan).0.call();
+        let mut call = || grow(&mut random, &plan).0.run_call();
         (0..RECIPES).map(|_| call()).collect()
     });
     let [mut ours, mut theirs] = [[0; 128]; 2];

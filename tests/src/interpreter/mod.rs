@@ -5,14 +5,14 @@ mod run;
 mod sheet;
 mod text;
 
-pub use run::run;
+pub use run::{run, Recipe};
 pub use sheet::sheet;
 
 /// Number and place.
-type Refused = (u64, usize);
+pub type Refused = (u64, usize);
 
 #[derive(Clone, Copy, PartialEq, Eq)]
-enum Kind {
+pub enum Kind {
     Double = 1,
     Whole = 2,
 }

@@ -1,6 +1,6 @@
 //! The run: frame to values.
 
-use super::text::{hexadecimal, is_nan, parse, Step};
+use super::text::{hexadecimal, is_nan, parse, Step, MOST_STEPS};
 use super::Kind::{self, Double, Whole};
 use super::Refused;
 use crate::answer::Answer;
@@ -22,40 +22,68 @@ pub fn run(text: &[u8], frame: &[u8], words: &mut [u64]) -> RunAnswer {
     }
 }
 
-fn completed(text: &[u8], frame: &[u8], words: &mut [u64]) -> Result<(Kind, u64), Refused> {
-    let steps = parse(text)?;
-    if words.len() < steps.len() {
-        return Err((40, 0));
-    }
-    let inputs = read_frame(&steps, frame)?;
-    let values = evaluate(&steps, &inputs)?;
-    words[..values.len()].copy_from_slice(&values);
-    let last = steps.len() - 1;
-    Ok((steps[last].kind, values[last]))
+/// A recipe that was read, for many frames.
+pub struct Recipe {
+    steps: Vec<Step>,
+    inputs: Vec<usize>,
 }
 
-fn read_frame(steps: &[Step], frame: &[u8]) -> Result<Vec<u64>, Refused> {
-    let is_input = |step: &Step| step.opcode <= 0x02;
-    let inputs = steps.iter().filter(|step| is_input(step)).count();
-    if frame.len() != 16 * inputs {
-        return Err((30, 0));
+impl Recipe {
+    pub fn read(text: &[u8]) -> Result<Recipe, Refused> {
+        let steps = parse(text)?;
+        let inputs = (0..steps.len())
+            .filter(|&place| steps[place].opcode <= 0x02)
+            .collect();
+        Ok(Recipe { steps, inputs })
     }
-    let words: Option<Vec<u64>> = frame.chunks_exact(16).map(hexadecimal).collect();
-    let words = words.ok_or((31, 0))?;
-    let places = steps.iter().enumerate().filter(|(_, step)| is_input(step));
-    for ((place, step), &word) in places.zip(&words) {
-        let inside = match step.kind {
-            Double => {
-                let rank = |word| BINARY64.rank(word);
-                !is_nan(word) && (rank(step.p)..=rank(step.q)).contains(&rank(word))
-            }
-            Whole => (step.p as i64..=step.q as i64).contains(&(word as i64)),
-        };
-        if !inside {
-            return Err((32, place));
+
+    /// The last step's kind and word.
+    pub fn run(&self, frame: &[u8]) -> Result<(Kind, u64), Refused> {
+        let last = self.steps.len() - 1;
+        Ok((self.steps[last].kind, self.values(frame)?[last]))
+    }
+
+    fn values(&self, frame: &[u8]) -> Result<[u64; MOST_STEPS], Refused> {
+        let mut values = [0; MOST_STEPS];
+        self.read_frame(frame, &mut values)?;
+        evaluate(&self.steps, &mut values)?;
+        Ok(values)
+    }
+
+    /// Puts each input's word at its step.
+    fn read_frame(&self, frame: &[u8], values: &mut [u64; MOST_STEPS]) -> Result<(), Refused> {
+        if frame.len() != 16 * self.inputs.len() {
+            return Err((30, 0));
         }
+        for (&place, digits) in self.inputs.iter().zip(frame.chunks_exact(16)) {
+            values[place] = hexadecimal(digits).ok_or((31, 0))?;
+        }
+        for &place in &self.inputs {
+            let (step, word) = (&self.steps[place], values[place]);
+            let inside = match step.kind {
+                Double => {
+                    let rank = |word| BINARY64.rank(word);
+                    !is_nan(word) && (rank(step.p)..=rank(step.q)).contains(&rank(word))
+                }
+                Whole => (step.p as i64..=step.q as i64).contains(&(word as i64)),
+            };
+            if !inside {
+                return Err((32, place));
+            }
+        }
+        Ok(())
     }
-    Ok(words)
+}
+
+fn completed(text: &[u8], frame: &[u8], words: &mut [u64]) -> Result<(Kind, u64), Refused> {
+    let recipe = Recipe::read(text)?;
+    let steps = recipe.steps.len();
+    if words.len() < steps {
+        return Err((40, 0));
+    }
+    let values = recipe.values(frame)?;
+    words[..steps].copy_from_slice(&values[..steps]);
+    Ok((recipe.steps[steps - 1].kind, values[steps - 1]))
 }
 
 /// The function's word, or the number of the step's refusal.
@@ -66,14 +94,13 @@ fn or_refused(answer: Answer, number: u64) -> Result<u64, u64> {
     }
 }
 
-fn evaluate(steps: &[Step], inputs: &[u64]) -> Result<Vec<u64>, Refused> {
-    let mut inputs = inputs.iter();
-    let mut values: Vec<u64> = Vec::with_capacity(steps.len());
+/// Works the steps in order; the inputs' values stand at their places.
+fn evaluate(steps: &[Step], values: &mut [u64; MOST_STEPS]) -> Result<(), Refused> {
     for (place, step) in steps.iter().enumerate() {
         let a = || values[step.a];
         let b = || values[step.b];
         let value = match step.opcode {
-            0x01 | 0x02 => Ok(*inputs.next().expect("a word for every input")),
+            0x01 | 0x02 => Ok(values[place]),
             0x03 | 0x04 => Ok(step.p),
             0x10 => Ok(rounding::floor(&BINARY64, a())),
             0x11 => Ok(rounding::ceil(&BINARY64, a())),
@@ -98,17 +125,19 @@ fn evaluate(steps: &[Step], inputs: &[u64]) -> Result<Vec<u64>, Refused> {
                 .ok_or(21),
             _ => or_refused(whole::to_double(&BINARY64, a() as i64), 22),
         };
-        values.push(value.map_err(|number| (number, place))?);
+        values[place] = value.map_err(|number| (number, place))?;
     }
-    Ok(values)
+    Ok(())
 }
 
 #[cfg(test)]
 mod tests {
     use super::*;
     use crate::patterns::Random;
+    use crate::recipes::comparison::Outcome;
     use crate::recipes::faults::{damaged, REFUSALS};
-    use crate::reference::recipe::{self, Way};
+    use crate::recipes::RunCall;
+    use crate::reference::recipe::Way;
 
     /// A race against wrong answers would say nothing.
     #[test]
@@ -118,21 +147,10 @@ mod tests {
             for first in REFUSALS {
                 for second in REFUSALS {
                     for faults in [&[][..], &[first], &[first, second]] {
-                        let (call, _) = damaged(&mut random, faults);
-                        let mut words = vec![7; call.lent];
-                        let answer = run(&call.text, &call.frame, &mut words);
-                        let mut expected_words = vec![7; call.lent];
-                        let expected = recipe::run(Way::Short, &call.text, &call.frame, call.lent);
-                        let expected = match expected {
-                            Err(refusal) => RunAnswer::from(refusal),
-                            Ok(values) => {
-                                for (word, value) in expected_words.iter_mut().zip(&values) {
-                                    *word = value.word;
-                                }
-                                RunAnswer::from(*values.last().unwrap())
-                            }
-                        };
-                        assert_eq!((answer, words), (expected, expected_words), "{call}");
+                        let (call, _) = damaged::<RunCall>(&mut random, faults);
+                        let outcome =
+                            Outcome::made(&call, |words| run(&call.text, &call.frame, words));
+                        assert_eq!(outcome, Outcome::expected(Way::Short, &call), "{call}");
                     }
                 }
             }

@@ -259,24 +259,15 @@ fn to_double(n: i64) -> Result<f64, u64> {
 mod tests {
     use super::*;
     use crate::patterns::Random;
-    use crate::recipes::faults::{damaged_sheet, SHEET_REFUSALS};
+    use crate::recipes::comparison::Outcome;
+    use crate::recipes::faults::{damaged, SHEET_REFUSALS};
     use crate::recipes::growing::grow;
     use crate::recipes::SheetCall;
-    use crate::reference::recipe::{self, Way};
+    use crate::reference::recipe::Way;
 
     fn check(call: &SheetCall) {
-        let mut memory = vec![7; call.lent];
-        let answer = sheet(&call.text, &mut memory);
-        let mut expected_memory = vec![7; call.lent];
-        let expected = match recipe::sheet(Way::Short, &call.text, call.lent) {
-            Err(refusal) => SheetAnswer::from(refusal),
-            Ok(ranges) => {
-                let lines = recipe::sheet::bytes(&ranges);
-                expected_memory[..lines.len()].copy_from_slice(&lines);
-                SheetAnswer::passed(ranges.len())
-            }
-        };
-        assert_eq!((answer, memory), (expected, expected_memory), "{call}");
+        let outcome = Outcome::made(call, |memory| sheet(&call.text, memory));
+        assert_eq!(outcome, Outcome::expected(Way::Short, call), "{call}");
     }
 
     /// A race against wrong answers would say nothing.
@@ -287,7 +278,7 @@ mod tests {
             for first in SHEET_REFUSALS {
                 for second in SHEET_REFUSALS {
                     for faults in [&[][..], &[first], &[first, second]] {
-                        check(&damaged_sheet(&mut random, faults).0);
+                        check(&damaged(&mut random, faults).0);
                     }
                 }
                 let plan = random.plan();

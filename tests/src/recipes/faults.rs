@@ -3,11 +3,11 @@
 //!
 //! A fault is known by the number of the refusal that it is there for.
 
-use super::growing::{grow, grow_sheet, Grow};
-use super::{Call, Draft, SheetCall};
+use super::growing::Grow;
+use super::{Call, Draft};
 use crate::patterns::Random;
 use crate::reference::recipe::text::{LINE, MOST_INPUTS, MOST_STEPS};
-use crate::reference::recipe::{sheet, Kind, Operation, Refusal, Source, Way, OPERATIONS};
+use crate::reference::recipe::{Kind, Operation, Refusal, Source, Way, OPERATIONS};
 use std::cmp::Ordering;
 
 /// Every refusal of a run.
@@ -16,58 +16,32 @@ pub const REFUSALS: [u64; 15] = [10, 11, 12, 13, 14, 15, 16, 17, 40, 30, 31, 32,
 /// Every refusal of a sheet.
 pub const SHEET_REFUSALS: [u64; 12] = [10, 11, 12, 13, 14, 15, 16, 17, 40, 20, 21, 22];
 
-/// A run with these faults, and the refusals that each alone would be given: fewer where one
-/// didn't fit. Without faults, a run that completes.
-pub fn damaged(random: &mut Random, faults: &[u64]) -> (Call, Vec<Refusal>) {
-    let (draft, mut refusals) = damaged_draft(random, faults, grow);
-    let mut call = draft.call();
+/// A call with these faults, and the refusals that each alone would be given: fewer where one
+/// didn't fit. Without faults, a call that is answered.
+pub fn damaged<C: Call>(random: &mut Random, faults: &[u64]) -> (C, Vec<Refusal>) {
+    let (draft, mut refusals) = damaged_draft(random, faults, C::GROW);
+    let mut call = C::of(&draft);
+    let needed = call.lent();
     for &fault in faults {
         let beside = last_place(&refusals);
-        let place = match fault {
-            11 => wrong_byte(random, &mut call.text, beside),
-            40 => {
-                call.lent = random.less_than(draft.lines.len());
+        let place = match (fault, call.frame_mut()) {
+            (11, _) => wrong_byte(random, call.text_mut(), beside),
+            (40, _) => {
+                call.lend(random.less_than(needed));
                 Some(0)
             }
-            30 => wrong_frame_length(random, &mut call),
-            31 => wrong_frame_byte(random, &mut call),
+            (30, Some(frame)) => wrong_frame_length(random, frame),
+            (31, Some(frame)) => wrong_frame_byte(random, frame),
             _ => None,
         };
         refusals.extend(place.map(|place| Refusal::at(fault, place)));
     }
     if faults.contains(&10) {
-        wrong_length(random, &mut call.text);
+        wrong_length(random, call.text_mut());
         refusals.push(Refusal::whole_call(10));
     }
     if !faults.contains(&40) && random.below(2) == 0 {
-        call.lent += 1 + random.below(5) as usize;
-    }
-    (call, refusals)
-}
-
-/// A sheet with these faults, and the refusals that each alone would be given: fewer where one
-/// didn't fit. Without faults, a sheet that passes.
-pub fn damaged_sheet(random: &mut Random, faults: &[u64]) -> (SheetCall, Vec<Refusal>) {
-    let (draft, mut refusals) = damaged_draft(random, faults, grow_sheet);
-    let mut call = draft.sheet_call();
-    for &fault in faults {
-        let beside = last_place(&refusals);
-        let place = match fault {
-            11 => wrong_byte(random, &mut call.text, beside),
-            40 => {
-                call.lent = random.less_than(sheet::LINE * draft.lines.len());
-                Some(0)
-            }
-            _ => None,
-        };
-        refusals.extend(place.map(|place| Refusal::at(fault, place)));
-    }
-    if faults.contains(&10) {
-        wrong_length(random, &mut call.text);
-        refusals.push(Refusal::whole_call(10));
-    }
-    if !faults.contains(&40) && random.below(2) == 0 {
-        call.lent += 1 + random.below(2 * sheet::LINE as u64) as usize;
+        call.lend(needed + 1 + random.below(C::MOST_SPARE) as usize);
     }
     (call, refusals)
 }
@@ -329,8 +303,8 @@ impl Random {
     }
 }
 
-fn wrong_frame_length(random: &mut Random, call: &mut Call) -> Option<usize> {
-    let digits = call.frame.len();
+fn wrong_frame_length(random: &mut Random, frame: &mut Vec<u8>) -> Option<usize> {
+    let digits = frame.len();
     let length = match random.below(6) {
         0 => digits + 1,
         1 => digits + 16,
@@ -339,14 +313,14 @@ fn wrong_frame_length(random: &mut Random, call: &mut Call) -> Option<usize> {
         4 => random.below(digits as u64) as usize,
         _ => digits + 1 + random.below(300) as usize,
     };
-    call.frame.resize(length, b'0');
+    frame.resize(length, b'0');
     (length != digits).then_some(0)
 }
 
-fn wrong_frame_byte(random: &mut Random, call: &mut Call) -> Option<usize> {
-    let places: Vec<usize> = (0..call.frame.len()).collect();
+fn wrong_frame_byte(random: &mut Random, frame: &mut [u8]) -> Option<usize> {
+    let places: Vec<usize> = (0..frame.len()).collect();
     let place = chosen(random, &places, None)?;
-    call.frame[place] = no_digit(random);
+    frame[place] = no_digit(random);
     Some(0)
 }
 
@@ -362,7 +336,7 @@ fn input_outside(random: &mut Random, draft: &mut Draft) -> Option<usize> {
 #[cfg(test)]
 mod tests {
     use super::*;
-    use crate::reference::recipe::{run, sheet};
+    use crate::recipes::{RunCall, SheetCall};
     use std::collections::BTreeMap;
 
     /// "Order: 10; then line by line 11 to 17; then 40; for a run 30, 31, then 32 by input; then
@@ -382,9 +356,9 @@ mod tests {
     /// Checks what is given for a call with these faults, and tells what each would be.
     type Check = fn(&mut Random, &[u64]) -> Vec<Refusal>;
 
-    fn check_run(random: &mut Random, faults: &[u64]) -> Vec<Refusal> {
-        let (call, refusals) = damaged(random, faults);
-        let answer = run(Way::Short, &call.text, &call.frame, call.lent);
+    fn check<C: Call>(random: &mut Random, faults: &[u64]) -> Vec<Refusal> {
+        let (call, refusals) = damaged::<C>(random, faults);
+        let answer = call.reference(Way::Short);
         let expected = refusals.iter().min_by_key(|refusal| turn(refusal));
         assert_eq!(
             answer.err().as_ref(),
@@ -394,19 +368,10 @@ mod tests {
         refusals
     }
 
-    fn check_sheet(random: &mut Random, faults: &[u64]) -> Vec<Refusal> {
-        let (call, refusals) = damaged_sheet(random, faults);
-        let answer = sheet(Way::Short, &call.text, call.lent);
-        let expected = refusals.iter().min_by_key(|refusal| turn(refusal));
-        assert_eq!(
-            answer.err().as_ref(),
-            expected,
-            "{faults:?} {refusals:?}\n{call}"
-        );
-        refusals
-    }
-
-    const CALLS: [(Check, &[u64]); 2] = [(check_run, &REFUSALS), (check_sheet, &SHEET_REFUSALS)];
+    const CALLS: [(Check, &[u64]); 2] = [
+        (check::<RunCall>, &REFUSALS),
+        (check::<SheetCall>, &SHEET_REFUSALS),
+    ];
 
     #[test]
     fn without_a_fault_nothing_is_refused() {

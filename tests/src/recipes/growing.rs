@@ -360,7 +360,7 @@ mod tests {
         for _ in 0..5_000 {
             let plan = random.plan();
             let (draft, _) = grow(&mut random, &plan);
-            let call = draft.call();
+            let call = draft.run_call();
             let answer = run_of(Way::Short, &call.text, &call.frame, call.lent);
             assert_eq!(answer.map(|values| values.len()), Ok(plan.steps), "{call}");
             assert_eq!(draft.inputs(), plan.inputs);
@@ -432,7 +432,7 @@ mod tests {
             let ranges = ranges.unwrap_or_else(|refusal| panic!("{refusal:?}\n{call}"));
             assert_eq!(ranges.len(), plan.steps);
             assert_eq!(draft.inputs(), plan.inputs);
-            let run = draft.call();
+            let run = draft.run_call();
             assert!(run_of(Way::Short, &run.text, &run.frame, run.lent).is_ok());
             let is_wide = |step: usize| !ranges[step].range.is_narrow(ranges[step].kind);
             for (step, line) in draft.lines.iter().enumerate() {
@@ -465,7 +465,7 @@ mod tests {
                 let plan = random.with_refusing(plan, &[number]);
                 let (draft, refusing) = grow(&mut random, &plan);
                 if let [(place, number)] = refusing[..] {
-                    let call = draft.call();
+                    let call = draft.run_call();
                     let answer = run_of(Way::Short, &call.text, &call.frame, call.lent);
                     assert_eq!(answer, Err(Refusal::at(number, place)), "{call}");
                     places[0].insert(place);

@@ -3,14 +3,19 @@
 //!
 //! `growing` makes valid recipes along a frame or along ranges, `values` the constants, ranges and
 //! inputs in them, and `faults` damages them: one fault or two, each at the first, some or the last
-//! place.
+//! place. `comparison` holds what the library makes of a call beside what the reference does, and
+//! `walks` is what both calls are tried on.
 
+pub mod calls;
+pub mod comparison;
 pub mod faults;
 pub mod growing;
 pub mod values;
+pub mod walks;
+
+pub use calls::{Call, RunCall, SheetCall};
 
 use crate::reference::recipe::{sheet, text, Kind, Operation};
-use std::fmt;
 
 /// The fields of a line.
 #[derive(Clone, Copy, Debug, Default, PartialEq, Eq)]
@@ -115,8 +120,8 @@ impl Draft {
     }
 
     /// The run that it is, with memory for just its steps.
-    pub fn call(&self) -> Call {
-        Call {
+    pub fn run_call(&self) -> RunCall {
+        RunCall {
             text: self.text(),
             frame: frame(&self.words),
             lent: self.lines.len(),
@@ -141,48 +146,6 @@ pub fn frame(words: &[u64]) -> Vec<u8> {
     frame
 }
 
-/// What a run is called with.
-#[derive(Clone, Debug, PartialEq, Eq)]
-pub struct Call {
-    pub text: Vec<u8>,
-    pub frame: Vec<u8>,
-    /// Words of memory.
-    pub lent: usize,
-}
-
-/// What a sheet is called with.
-#[derive(Clone, Debug, PartialEq, Eq)]
-pub struct SheetCall {
-    pub text: Vec<u8>,
-    /// Bytes of memory.
-    pub lent: usize,
-}
-
-fn write_text(f: &mut fmt::Formatter, text: &[u8]) -> fmt::Result {
-    let lines = text.escape_ascii().to_string().replace("\\n", "\n");
-    writeln!(f, "text, {} bytes:\n{lines}", text.len())
-}
-
-impl fmt::Display for SheetCall {
-    fn fmt(&self, f: &mut fmt::Formatter) -> fmt::Result {
-        write_text(f, &self.text)?;
-        write!(f, "{} bytes lent", self.lent)
-    }
-}
-
-impl fmt::Display for Call {
-    fn fmt(&self, f: &mut fmt::Formatter) -> fmt::Result {
-        write_text(f, &self.text)?;
-        writeln!(
-            f,
-            "frame, {} bytes: {}",
-            self.frame.len(),
-            self.frame.escape_ascii()
-        )?;
-        write!(f, "{} words lent", self.lent)
-    }
-}
-
 #[cfg(test)]
 mod tests {
     use super::*;
@@ -197,7 +160,7 @@ mod tests {
             ],
             words: vec![0xbfe0000000000000],
         };
-        let call = draft.call();
+        let call = draft.run_call();
         let text = "010000c004000000000000401d000000000000\n\
                     10000000000000000000000000000000000000\n\
                     18010000000000000000000000000000000000\n";

@@ -1,55 +1,16 @@
 //! The same run whatever floating-point environment the host has set.
 
-#![cfg(target_arch = "x86_64")]
-
-use crate::{difference, expected_outcome, library_outcome, Outcome};
-use estrenwind_tests::environment::{leaves_a_trace, ENVIRONMENTS};
-use estrenwind_tests::patterns::Random;
-use estrenwind_tests::recipes::faults::{damaged, REFUSALS};
-use estrenwind_tests::recipes::Call;
-use estrenwind_tests::reference::recipe::Way;
-
-/// Calls that complete and calls with a fault, by turns.
-fn calls(seed: u64, rounds: usize) -> Vec<(Call, Outcome)> {
-    let mut random = Random::new(seed);
-    let mut calls = Vec::new();
-    for _ in 0..rounds {
-        for fault in REFUSALS {
-            calls.push(damaged(&mut random, &[]).0);
-            calls.push(damaged(&mut random, &[fault]).0);
-        }
-    }
-    let expected = |call: Call| {
-        let outcome = expected_outcome(Way::Short, &call);
-        (call, outcome)
-    };
-    calls.into_iter().map(expected).collect()
-}
+use estrenwind_tests::recipes::walks::environment::{
+    no_floating_point_operation, the_same_in_every_environment,
+};
+use estrenwind_tests::recipes::RunCall;
 
 #[test]
 fn answers_are_the_same_in_every_environment() {
-    let calls = calls(28, 700);
-    for environment in ENVIRONMENTS {
-        let found = environment.run(|| {
-            let found = calls.iter().find_map(|(call, expected)| {
-                let outcome = library_outcome(call);
-                (outcome != *expected).then_some((call, outcome, expected))
-            });
-            assert!(environment.is_in_force(), "{}", environment.name);
-            found
-        });
-        if let Some((call, outcome, expected)) = found {
-            let difference = difference(call, &outcome, expected).unwrap();
-            panic!("{}: {difference}", environment.name);
-        }
-    }
+    the_same_in_every_environment::<RunCall>(28, 700);
 }
 
-/// Integer arithmetic raises nothing. A floating-point operation shows by what it raises, even
-/// where its answers happen to be right.
 #[test]
 fn a_run_does_no_floating_point_operation() {
-    for (call, _) in calls(29, 200) {
-        assert!(!leaves_a_trace(|| library_outcome(&call)), "{call}");
-    }
+    no_floating_point_operation::<RunCall>(29, 200);
 }

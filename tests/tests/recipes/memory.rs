@@ -1,10 +1,11 @@
 //! The lent memory, and slices without a byte.
 
-use crate::{check, filled, BEYOND};
 use estrenwind_tests::library::{ew_run, RunAnswer};
 use estrenwind_tests::patterns::Random;
+use estrenwind_tests::recipes::comparison::check;
 use estrenwind_tests::recipes::growing::grow;
-use estrenwind_tests::recipes::Call;
+use estrenwind_tests::recipes::walks::memory;
+use estrenwind_tests::recipes::RunCall;
 use estrenwind_tests::reference::recipe::{Kind, Way};
 use std::ptr;
 
@@ -15,40 +16,14 @@ fn memory_of_every_length() {
     for _ in 0..200 {
         let plan = random.plan();
         let (draft, _) = grow(&mut random, &plan);
-        for lent in (0..plan.steps + 4).chain([1000]) {
-            let mut call = draft.call();
-            call.lent = lent;
-            let outcome = check(Way::Short, &call);
-            let refusal = if lent < plan.steps { 40 } else { 0 };
-            assert_eq!(outcome.answer.refusal, refusal, "{lent} of {}", plan.steps);
-            let untouched = if refusal == 0 { plan.steps } else { 0 };
-            assert_eq!(
-                outcome.memory[untouched..],
-                filled(lent + BEYOND)[untouched..]
-            );
-        }
+        let lengths = (0..plan.steps + 4).chain([1000]);
+        memory::of_lengths::<RunCall>(&draft, plan.steps, lengths);
     }
 }
 
-/// A word that was written before the refusal would show in the memory of each of these.
 #[test]
 fn a_step_refused_last_of_all_leaves_no_word() {
-    let mut random = Random::new(22);
-    for number in [20, 21, 22] {
-        let mut met = 0;
-        for _ in 0..2_000 {
-            let plan = random.plan();
-            let plan = random.with_refusing(plan, &[number]);
-            let (draft, refusing) = grow(&mut random, &plan);
-            if refusing == [(plan.steps - 1, number)] {
-                let outcome = check(Way::Short, &draft.call());
-                assert_eq!(outcome.answer.refusal, number);
-                assert_eq!(outcome.memory, filled(plan.steps + BEYOND));
-                met += 1;
-            }
-        }
-        assert!(met > 100, "{number}: {met}");
-    }
+    memory::a_step_refused_last_of_all_leaves_nothing::<RunCall>(22);
 }
 
 /// C's way to pass nothing is a null pointer and length 0.
@@ -89,7 +64,7 @@ fn nothing_may_be_an_empty_slice() {
             for lent in [0, 1] {
                 check(
                     Way::Exact,
-                    &Call {
+                    &RunCall {
                         text: text.to_vec(),
                         frame: frame.to_vec(),
                         lent,
@@ -100,21 +75,7 @@ fn nothing_may_be_an_empty_slice() {
     }
 }
 
-/// A run reads its text and frame and keeps nothing: another in between changes no answer.
 #[test]
 fn a_run_keeps_nothing_from_the_one_before() {
-    let mut random = Random::new(23);
-    let calls: Vec<Call> = (0..300)
-        .map(|_| {
-            let plan = random.plan();
-            grow(&mut random, &plan).0.call()
-        })
-        .collect();
-    let first: Vec<_> = calls.iter().map(|call| check(Way::Short, call)).collect();
-    let second: Vec<_> = calls
-        .iter()
-        .rev()
-        .map(|call| check(Way::Short, call))
-        .collect();
-    assert!(first.iter().eq(second.iter().rev()));
+    memory::nothing_is_kept_from_the_call_before::<RunCall>(23);
 }

@@ -1,8 +1,8 @@
 //! What document 01 prints.
 
-use crate::check;
 use estrenwind_tests::library::RunAnswer;
-use estrenwind_tests::recipes::Call;
+use estrenwind_tests::recipes::comparison::check;
+use estrenwind_tests::recipes::RunCall;
 use estrenwind_tests::reference::recipe::Way;
 
 const EXAMPLE: &str = "\
@@ -11,8 +11,8 @@ const EXAMPLE: &str = "\
 18010000000000000000000000000000000000
 ";
 
-fn call(text: &str, frame: &str) -> Call {
-    Call {
+fn call(text: &str, frame: &str) -> RunCall {
+    RunCall {
         text: text.into(),
         frame: frame.into(),
         lent: text.len() / 39,

@@ -1,9 +1,9 @@
 //! Each step on the operands where a mistake would sit, given as inputs of any value.
 
-use crate::check;
 use estrenwind_tests::functions::Function;
 use estrenwind_tests::operands::Operands;
 use estrenwind_tests::patterns::Random;
+use estrenwind_tests::recipes::comparison::check;
 use estrenwind_tests::recipes::{Draft, Line};
 use estrenwind_tests::reference::recipe::{Kind, Operation, Way, OPERATIONS};
 use estrenwind_tests::reference::{Class, BINARY64};
@@ -78,7 +78,7 @@ fn every_step_on_its_edges() {
     for operation in OPERATIONS.iter().filter(|operation| operation.uses_a()) {
         let (mut completed, mut refused) = (0u64, 0u64);
         for words in cases(operation, &mut random) {
-            let outcome = check(Way::Short, &draft(operation, words).call());
+            let outcome = check(Way::Short, &draft(operation, words).run_call());
             match outcome.answer.refusal {
                 0 => completed += 1,
                 32 => assert!(has_nan(operation, words)),
@@ -107,7 +107,7 @@ fn a_step_on_one_step_twice_and_on_the_first_of_many() {
             lines.resize(127, Line::constant(Kind::Whole, 1));
             lines.push(Line::step(operation.opcode, 0, 0));
             let words = vec![word];
-            check(Way::Short, &Draft { lines, words }.call());
+            check(Way::Short, &Draft { lines, words }.run_call());
         }
     }
 }
@@ -121,7 +121,7 @@ fn inputs_keep_their_bits() {
                 lines: vec![any(kind)],
                 words: vec![word],
             };
-            let answer = check(Way::Exact, &draft.call()).answer;
+            let answer = check(Way::Exact, &draft.run_call()).answer;
             if kind == Kind::Whole || BINARY64.classify(word) != Class::Nan {
                 assert_eq!((answer.kind, answer.word), (kind as u64, word));
             } else {

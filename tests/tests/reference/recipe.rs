@@ -1,10 +1,11 @@
 //! Recipes: the table of steps against document 01's, and the two ways of working values.
 
 use estrenwind_tests::patterns::Random;
-use estrenwind_tests::recipes::faults::{damaged, REFUSALS};
+use estrenwind_tests::recipes::faults::damaged;
+use estrenwind_tests::recipes::{Call, RunCall};
 use estrenwind_tests::reference::natural::Natural;
 use estrenwind_tests::reference::recipe::Kind::{self, Double, Whole};
-use estrenwind_tests::reference::recipe::{run, Operation, Way, OPERATIONS};
+use estrenwind_tests::reference::recipe::{Operation, Way, OPERATIONS};
 use estrenwind_tests::reference::{short, whole, BINARY64};
 
 /// "10 to 18 and 20 to 22 take doubles, 23 a double A and a whole B, 30 to 32 wholes. 10 to 18 and
@@ -73,19 +74,23 @@ fn whole_numbers_are_the_doubles_that_stand_for_them() {
     }
 }
 
-#[test]
-fn both_ways_give_the_same_run() {
-    let mut random = Random::new(0x501);
-    for first in REFUSALS {
-        for second in REFUSALS {
+/// Of calls with every fault, with every pair of faults, and without one.
+pub fn both_ways_give_the_same<C: Call>(seed: u64) {
+    let mut random = Random::new(seed);
+    for &first in C::REFUSALS {
+        for &second in C::REFUSALS {
             for faults in [&[][..], &[first], &[first, second]] {
                 for _ in 0..8 {
-                    let (call, _) = damaged(&mut random, faults);
-                    let [exact, short] = [Way::Exact, Way::Short]
-                        .map(|way| run(way, &call.text, &call.frame, call.lent));
+                    let (call, _) = damaged::<C>(&mut random, faults);
+                    let [exact, short] = [Way::Exact, Way::Short].map(|way| call.reference(way));
                     assert_eq!(exact, short, "{call}");
                 }
             }
         }
     }
+}
+
+#[test]
+fn both_ways_give_the_same_run() {
+    both_ways_give_the_same::<RunCall>(0x501);
 }

@@ -1,10 +1,10 @@
 //! Sheets: the range rules against every value of small ranges, the promise of a passed sheet, and
 //! the two ways of working values.
 
+use crate::recipe::both_ways_give_the_same;
 use estrenwind_tests::patterns::Random;
-use estrenwind_tests::recipes::faults::{damaged_sheet, SHEET_REFUSALS};
-use estrenwind_tests::recipes::frame;
 use estrenwind_tests::recipes::growing::{grow, grow_sheet};
+use estrenwind_tests::recipes::{frame, SheetCall};
 use estrenwind_tests::reference::recipe::operations::Function;
 use estrenwind_tests::reference::recipe::{
     run, sheet, Kind, Operation, Range, Source, StepRange, Way, OPERATIONS,
@@ -175,17 +175,5 @@ fn lines_are_as_document_01_says() {
 
 #[test]
 fn both_ways_give_the_same_sheet() {
-    let mut random = Random::new(0x513);
-    for first in SHEET_REFUSALS {
-        for second in SHEET_REFUSALS {
-            for faults in [&[][..], &[first], &[first, second]] {
-                for _ in 0..8 {
-                    let (call, _) = damaged_sheet(&mut random, faults);
-                    let [exact, short] =
-                        [Way::Exact, Way::Short].map(|way| sheet(way, &call.text, call.lent));
-                    assert_eq!(exact, short, "{call}");
-                }
-            }
-        }
-    }
+    both_ways_give_the_same::<SheetCall>(0x513);
 }

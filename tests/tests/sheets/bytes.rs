@@ -1,58 +1,20 @@
 //! Texts as bytes: every byte at every place, every opcode with every operand, every length, noise.
 
-use crate::check;
 use estrenwind_tests::patterns::Random;
+use estrenwind_tests::recipes::comparison::check;
 use estrenwind_tests::recipes::growing::{grow_sheet, Plan};
-use estrenwind_tests::recipes::{Draft, Line, SheetCall};
-use estrenwind_tests::reference::recipe::{Kind, Way};
-
-/// A line of every sort: inputs and constants of both kinds, steps of one and two operands.
-fn of_every_sort() -> Draft {
-    Draft {
-        lines: vec![
-            Line::input(Kind::Double, [0xc004000000000000, 0x401d000000000000]),
-            Line::input(Kind::Whole, [-7i64 as u64, 9]),
-            Line::constant(Kind::Double, 0x4008000000000000),
-            Line::constant(Kind::Whole, 5),
-            Line::step(0x13, 0, 0),
-            Line::step(0x22, 4, 2),
-            Line::step(0x23, 5, 1),
-            Line::step(0x30, 3, 1),
-            Line::step(0x32, 7, 0),
-            Line::step(0x18, 8, 0),
-        ],
-        words: vec![],
-    }
-}
+use estrenwind_tests::recipes::walks::bytes;
+use estrenwind_tests::recipes::{Call, Line, SheetCall};
+use estrenwind_tests::reference::recipe::Way;
 
 #[test]
 fn every_byte_at_every_place_of_a_text() {
-    let whole = of_every_sort().sheet_call();
-    assert_eq!(check(Way::Exact, &whole).answer.refusal, 0);
-    let mut call = whole.clone();
-    for place in 0..whole.text.len() {
-        for byte in 0..=255 {
-            call.text[place] = byte;
-            check(Way::Short, &call);
-        }
-        call.text[place] = whole.text[place];
-    }
+    bytes::every_byte_at_every_place(Way::Short, SheetCall::text_mut);
 }
 
-/// Every opcode with every A, and with every B, at a step that has both kinds before it.
 #[test]
 fn every_opcode_with_every_operand() {
-    let mut draft = of_every_sort();
-    let last = draft.lines.len();
-    draft.lines.push(Line::default());
-    for opcode in 0..=255 {
-        for operand in 0..=255 {
-            for (a, b) in [(operand, 0), (operand, 1), (0, operand), (1, operand)] {
-                draft.lines[last] = Line::step(opcode, a, b);
-                check(Way::Short, &draft.sheet_call());
-            }
-        }
-    }
+    bytes::every_opcode_with_every_operand::<SheetCall>();
 }
 
 /// Every operand of a step at the end of the longest recipe.
@@ -94,14 +56,9 @@ fn texts_of_every_length() {
     };
     let (draft, _) = grow_sheet(&mut Random::new(0x60), &plan);
     let whole = draft.sheet_call();
-    for length in 0..=whole.text.len() + 100 {
-        let text = whole.text.iter().cycle().take(length).copied().collect();
-        let lent = whole.lent + 200;
-        let outcome = check(Way::Short, &SheetCall { text, lent });
-        let fits = length > 0 && length % 39 == 0 && length <= 4992;
-        let refusal = if fits { 0 } else { 10 };
-        assert_eq!(outcome.answer.refusal, refusal, "{length} bytes");
-    }
+    let mut spare = whole.clone();
+    spare.lent += 200;
+    bytes::texts_of_every_length(&spare, whole.text.len() + 100);
     for times in [2, 500, 1 << 12] {
         let (text, lent) = (whole.text.repeat(times), whole.lent);
         let outcome = check(Way::Short, &SheetCall { text, lent });
@@ -114,23 +71,7 @@ fn texts_of_every_length() {
 fn noise() {
     let mut random = Random::new(0x61);
     for round in 0..100_000 {
-        let lines = 1 + random.below(4) as usize;
-        let mut text: Vec<u8> = Vec::with_capacity(39 * lines);
-        for place in 0..39 * lines {
-            let digit = b"0123456789abcdef"[random.below(16) as usize];
-            text.push(match (round % 4, place % 39) {
-                (0, _) => random.word() as u8,
-                (1, 38) | (2, 38) | (3, 38) => b'\n',
-                (1, _) => digit,
-                (2, 0..=1) => b"0012"[random.below(4) as usize],
-                (_, 0..=5) => b"01234"[random.below(5) as usize],
-                (2, _) => digit,
-                _ => b'0',
-            });
-        }
-        if random.below(16) == 0 {
-            text.truncate(random.below(39 * lines as u64) as usize);
-        }
+        let text = bytes::noise(&mut random, round);
         let lent = random.below(37 * 6) as usize;
         check(Way::Short, &SheetCall { text, lent });
     }

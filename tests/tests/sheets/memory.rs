@@ -1,9 +1,10 @@
 //! The lent memory, and slices without a byte.
 
-use crate::{check, filled, BEFORE};
 use estrenwind_tests::library::{ew_sheet, SheetAnswer};
 use estrenwind_tests::patterns::Random;
+use estrenwind_tests::recipes::comparison::check;
 use estrenwind_tests::recipes::growing::{grow_sheet, Plan};
+use estrenwind_tests::recipes::walks::memory;
 use estrenwind_tests::recipes::SheetCall;
 use estrenwind_tests::reference::recipe::Way;
 use std::ptr;
@@ -22,40 +23,14 @@ fn memory_of_every_length() {
         };
         let (draft, _) = grow_sheet(&mut random, &plan);
         let needed = 37 * steps;
-        for lent in (0..needed + 40).chain([39 * steps, 10_000]) {
-            let mut call = draft.sheet_call();
-            call.lent = lent;
-            let outcome = check(Way::Short, &call);
-            let refusal = if lent < needed { 40 } else { 0 };
-            assert_eq!(outcome.answer.refusal, refusal, "{lent} of {needed}");
-            let written = if refusal == 0 { needed } else { 0 };
-            let rest = BEFORE + written;
-            assert_eq!(outcome.memory[..BEFORE], filled(lent)[..BEFORE]);
-            assert_eq!(outcome.memory[rest..], filled(lent)[rest..]);
-        }
+        let lengths = (0..needed + 40).chain([39 * steps, 10_000]);
+        memory::of_lengths::<SheetCall>(&draft, needed, lengths);
     }
 }
 
-/// A byte that was written before the refusal would show in the memory of each of these.
 #[test]
 fn a_step_refused_last_of_all_leaves_no_byte() {
-    let mut random = Random::new(0x71);
-    for number in [20, 21, 22] {
-        let mut met = 0;
-        for _ in 0..2_000 {
-            let plan = random.plan();
-            let plan = random.with_refusing(plan, &[number]);
-            let (draft, refusing) = grow_sheet(&mut random, &plan);
-            if refusing == [(plan.steps - 1, number)] {
-                let call = draft.sheet_call();
-                let outcome = check(Way::Short, &call);
-                assert_eq!(outcome.answer.refusal, number);
-                assert_eq!(outcome.memory, filled(call.lent));
-                met += 1;
-            }
-        }
-        assert!(met > 100, "{number}: {met}");
-    }
+    memory::a_step_refused_last_of_all_leaves_nothing::<SheetCall>(0x71);
 }
 
 /// C's way to pass nothing is a null pointer and length 0.
@@ -96,21 +71,7 @@ fn nothing_may_be_an_empty_slice() {
     }
 }
 
-/// A sheet reads its text and keeps nothing: another in between changes no answer.
 #[test]
 fn a_sheet_keeps_nothing_from_the_one_before() {
-    let mut random = Random::new(0x72);
-    let calls: Vec<SheetCall> = (0..300)
-        .map(|_| {
-            let plan = random.plan();
-            grow_sheet(&mut random, &plan).0.sheet_call()
-        })
-        .collect();
-    let first: Vec<_> = calls.iter().map(|call| check(Way::Short, call)).collect();
-    let second: Vec<_> = calls
-        .iter()
-        .rev()
-        .map(|call| check(Way::Short, call))
-        .collect();
-    assert!(first.iter().eq(second.iter().rev()));
+    memory::nothing_is_kept_from_the_call_before::<SheetCall>(0x72);
 }

@@ -1,8 +1,9 @@
 //! What document 01 prints.
 
-use crate::{check, filled, BEFORE};
+use crate::BEFORE;
 use estrenwind_tests::library::SheetAnswer;
-use estrenwind_tests::recipes::SheetCall;
+use estrenwind_tests::recipes::comparison::check;
+use estrenwind_tests::recipes::{Call, SheetCall};
 use estrenwind_tests::reference::recipe::Way;
 
 const EXAMPLE: &str = "\
@@ -46,8 +47,9 @@ fn the_example_s_sheet_is_as_printed() {
         assert_eq!(outcome.answer, passed(3));
         let end = BEFORE + EXAMPLE_SHEET.len();
         assert_eq!(outcome.memory[BEFORE..end], *EXAMPLE_SHEET.as_bytes());
-        assert_eq!(outcome.memory[..BEFORE], filled(call.lent)[..BEFORE]);
-        assert_eq!(outcome.memory[end..], filled(call.lent)[end..]);
+        let filled = SheetCall::filled(call.lent);
+        assert_eq!(outcome.memory[..BEFORE], filled[..BEFORE]);
+        assert_eq!(outcome.memory[end..], filled[end..]);
     }
 }
 

@@ -2,7 +2,7 @@
 //! and each of its words lies in the range that the sheet shows for its step. Both are the
 //! library's; the reference takes no part but in the choice of recipes.
 
-use crate::on_all_cores;
+use estrenwind_tests::comparison::on_all_cores;
 use estrenwind_tests::library::{self, RunAnswer, SheetAnswer};
 use estrenwind_tests::patterns::Random;
 use estrenwind_tests::recipes::growing::{grow, grow_sheet};

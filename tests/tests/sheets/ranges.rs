@@ -3,8 +3,9 @@
 //! Each row is one step on inputs of the ranges given, and what the sheet shows for it, to the bit;
 //! or the number with which it's refused.
 
-use crate::{check, BEFORE};
+use crate::BEFORE;
 use estrenwind_tests::library::SheetAnswer;
+use estrenwind_tests::recipes::comparison::check;
 use estrenwind_tests::recipes::{Draft, Line};
 use estrenwind_tests::reference::recipe::{Kind, Way};
 

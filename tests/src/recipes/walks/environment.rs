@@ -1,0 +1,51 @@
+//! The same outcome whatever floating-point environment the host has set.
+
+use crate::environment::{leaves_a_trace, ENVIRONMENTS};
+use crate::patterns::Random;
+use crate::recipes::comparison::Outcome;
+use crate::recipes::faults::damaged;
+use crate::recipes::Call;
+use crate::reference::recipe::Way;
+
+/// Calls that are answered and calls with a fault, by turns.
+fn calls<C: Call>(seed: u64, rounds: usize) -> Vec<C> {
+    let mut random = Random::new(seed);
+    let mut calls = Vec::new();
+    for _ in 0..rounds {
+        for &fault in C::REFUSALS {
+            calls.push(damaged(&mut random, &[]).0);
+            calls.push(damaged(&mut random, &[fault]).0);
+        }
+    }
+    calls
+}
+
+pub fn the_same_in_every_environment<C: Call>(seed: u64, rounds: usize) {
+    let expected = |call: C| {
+        let outcome = Outcome::expected(Way::Short, &call);
+        (call, outcome)
+    };
+    let calls: Vec<_> = calls(seed, rounds).into_iter().map(expected).collect();
+    for environment in ENVIRONMENTS {
+        let found = environment.run(|| {
+            let found = calls.iter().find_map(|(call, expected)| {
+                let outcome = Outcome::library(call);
+                (outcome != *expected).then_some((call, outcome, expected))
+            });
+            assert!(environment.is_in_force(), "{}", environment.name);
+            found
+        });
+        if let Some((call, outcome, expected)) = found {
+            let difference = outcome.difference(expected, call).unwrap();
+            panic!("{}: {difference}", environment.name);
+        }
+    }
+}
+
+/// Integer arithmetic raises nothing. A floating-point operation shows by what it raises, even
+/// where its answers happen to be right.
+pub fn no_floating_point_operation<C: Call>(seed: u64, rounds: usize) {
+    for call in calls::<C>(seed, rounds) {
+        assert!(!leaves_a_trace(|| Outcome::library(&call)), "{call}");
+    }
+}

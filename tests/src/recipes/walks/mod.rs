@@ -1,0 +1,8 @@
+//! What a run and a sheet are both tried on, said once over the call that is made. Each walk stops
+//! where the library's outcome isn't the reference's, or where it met too little.
+
+pub mod agreement;
+pub mod bytes;
+#[cfg(target_arch = "x86_64")]
+pub mod environment;
+pub mod memory;

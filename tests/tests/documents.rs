@@ -1,0 +1,121 @@
+//! The header, docs/FORMATS.md and the manual pages tell the same refusals, and their examples are what the
+//! programs print.
+
+use estrenwind_tests::programs::{run_output, sheet_output};
+use estrenwind_tests::reference::recipe::Way;
+use std::collections::BTreeMap;
+use std::fs;
+use std::path::Path;
+
+fn read(name: &str) -> String {
+    let path = Path::new(env!("CARGO_MANIFEST_DIR")).join("..").join(name);
+    fs::read_to_string(&path).unwrap_or_else(|error| panic!("{}: {error}", path.display()))
+}
+
+/// The header's names by number.
+fn names() -> BTreeMap<u64, String> {
+    let header = read("include/estrenwind.h");
+    let name = |line: &str| {
+        let (name, rest) = line.trim().split_once(" = ")?;
+        let number: String = rest.chars().take_while(char::is_ascii_digit).collect();
+        let is_name = name.starts_with("EW_REFUSED_");
+        is_name.then(|| (number.parse().unwrap(), name.to_string()))
+    };
+    header.lines().filter_map(name).collect()
+}
+
+#[test]
+fn formats_has_a_row_for_every_refusal() {
+    let names = names();
+    assert_eq!(names.len(), 18);
+    let formats = read("docs/FORMATS.md");
+    let rows: Vec<Vec<&str>> = formats
+        .lines()
+        .filter(|line| line.contains("`EW_REFUSED_"))
+        .map(|line| line.split('|').map(str::trim).collect())
+        .collect();
+    assert_eq!(rows.len(), names.len());
+    for (number, name) in &names {
+        let row = rows.iter().find(|row| row[1] == number.to_string());
+        let row = row.unwrap_or_else(|| panic!("no row for {number}"));
+        assert!(row.contains(&format!("`{name}`").as_str()), "{row:?}");
+        if (10..40).contains(number) {
+            assert!(row[2].starts_with(&format!("`ff{number:02x}")), "{row:?}");
+        }
+    }
+}
+
+#[test]
+fn manual_pages_have_every_refusal_of_their_program() {
+    let of_texts = 10..18;
+    let of_steps = 20..23;
+    for (page, numbers) in [
+        (
+            "man/sheet.1",
+            of_texts.chain(of_steps.clone()).collect::<Vec<u64>>(),
+        ),
+        ("man/run.1", of_steps.chain(30..33).collect()),
+    ] {
+        let page = read(page);
+        let rows: Vec<&str> = page.lines().filter(|line| line.starts_with("ff")).collect();
+        let tabs: Vec<&str> = rows
+            .iter()
+            .copied()
+            .filter(|row| row.contains('\t'))
+            .collect();
+        assert_eq!(tabs.len(), numbers.len());
+        for number in numbers {
+            let row = tabs
+                .iter()
+                .find(|row| row.starts_with(&format!("ff{number:02x}")));
+            let row = row.unwrap_or_else(|| panic!("no row for {number}"));
+            assert!(row.contains(&format!("\t{number}\t")), "{row}");
+        }
+    }
+}
+
+/// The input between `<<'END'` and `END`, and the output after it, of a manual page's example.
+fn example(page: &str) -> (String, String) {
+    let page = read(page);
+    let (_, rest) = page
+        .split_once("<<'END'\n")
+        .expect("the page has an example");
+    let (input, rest) = rest.split_once("END\n").expect("its input ends");
+    let (output, _) = rest.split_once(".fi\n").expect("its output ends");
+    (input.to_string(), output.to_string())
+}
+
+#[test]
+fn examples_of_the_manual_pages() {
+    let (input, output) = example("man/sheet.1");
+    assert_eq!(
+        sheet_output(Way::Exact, input.as_bytes()),
+        output.as_bytes()
+    );
+    let (input, output) = example("man/run.1");
+    assert_eq!(run_output(Way::Exact, input.as_bytes()), output.as_bytes());
+    assert_eq!(output.lines().count(), 2);
+}
+
+/// The indented blocks of docs/FORMATS.md that are a recipe, its sheet, an input of `run` and its answers.
+#[test]
+fn examples_of_formats() {
+    let formats = read("docs/FORMATS.md");
+    let block = |heading: &str, lines: usize| -> String {
+        let (_, section) = formats.split_once(heading).expect("the heading is there");
+        let indented = section.lines().skip_while(|line| !line.starts_with("    "));
+        indented
+            .take(lines)
+            .map(|line| format!("{}\n", line.trim()))
+            .collect()
+    };
+    let recipe = block("## Recipe\n", 3);
+    assert_eq!(
+        sheet_output(Way::Exact, recipe.as_bytes()),
+        block("## Sheet\n", 3).as_bytes()
+    );
+    let input = block("## Frames and answers\n", 6);
+    assert_eq!(input.matches('\n').count(), 6);
+    let answers = block("answers each frame with a line:\n", 2);
+    assert_eq!(run_output(Way::Exact, input.as_bytes()), answers.as_bytes());
+}
