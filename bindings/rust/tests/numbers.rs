@@ -1,0 +1,139 @@
+//! Each function at each width, by cases of document 01 and of its special values.
+
+use estrenwind::*;
+
+/// The same bits: -0 is not 0.
+#[track_caller]
+fn same(left: f64, right: f64) {
+    assert_eq!(left.to_bits(), right.to_bits(), "{left} {right}");
+}
+
+#[track_caller]
+fn same32(left: f32, right: f32) {
+    assert_eq!(left.to_bits(), right.to_bits(), "{left} {right}");
+}
+
+#[test]
+fn marked_cases() {
+    same(floor(-0.5), -1.0);
+    same(ceil(-0.5), -0.0);
+    same(round(0.5), 1.0);
+    same(round(f64::from_bits(0x3fdfffffffffffff)), 0.0);
+    same(nearbyint(2.5), 2.0);
+    same(round(-2.5), -3.0);
+    same(trunc(-0.0), -0.0);
+    same(
+        floor(f64::from_bits(0x4330000000000001)),
+        f64::from_bits(0x4330000000000001),
+    );
+    assert_eq!(lround(f64::from_bits(0xc3e0000000000000)), Ok(i64::MIN));
+    let refused = lround(f64::from_bits(0x43e0000000000000)).unwrap_err();
+    assert_eq!((refused.reason, refused.value), (Reason::OutOfRange, 0));
+    assert_eq!(
+        modf(-3.25),
+        Parts {
+            whole: -3.0,
+            fraction: -0.25
+        }
+    );
+    assert_eq!(
+        frexp(f64::from_bits(1)),
+        Scaled {
+            fraction: 0.5,
+            exponent: -1073
+        }
+    );
+    same(ldexp(1.0, -1075).unwrap(), 0.0);
+    assert_eq!(
+        ldexp(1.0, 1024).unwrap_err(),
+        Refused {
+            reason: Reason::OutOfRange,
+            value: f64::INFINITY
+        }
+    );
+    same(fmod(-7.5, 2.0).unwrap(), -1.5);
+    same(
+        nextafter(0.0, -1.0).unwrap(),
+        f64::from_bits(0x8000000000000001),
+    );
+}
+
+#[test]
+fn single_width() {
+    same32(floor(-0.5), -1.0);
+    same32(ceil(-0.5), -0.0);
+    same32(round(0.5), 1.0);
+    same32(round(f32::from_bits(0x3effffff)), 0.0);
+    same32(nearbyint(2.5), 2.0);
+    same32(trunc(-2.75), -2.0);
+    assert_eq!(lround(-2.5f32), Ok(-3));
+    assert_eq!(
+        modf(-3.25f32),
+        Parts {
+            whole: -3.0,
+            fraction: -0.25
+        }
+    );
+    assert_eq!(
+        frexp(f32::from_bits(1)),
+        Scaled {
+            fraction: 0.5,
+            exponent: -148
+        }
+    );
+    same32(ldexp(1.0, -149).unwrap(), f32::from_bits(1));
+    assert_eq!(ldexp(-1.0, 128).unwrap_err().value, f32::NEG_INFINITY);
+    same32(fmod(-7.5, 2.0).unwrap(), -1.5);
+    same32(nextafter(0.0, -1.0).unwrap(), f32::from_bits(0x80000001));
+    same32(fmin(2.0, f32::NAN), 2.0);
+    same32(fmax(-0.0, 0.0), -0.0);
+    same32(fabs(-1.5), 1.5);
+    same32(negate(1.5), -1.5);
+    assert_eq!(classify(f32::MIN_POSITIVE / 2.0), Class::Subnormal);
+}
+
+#[test]
+fn classes() {
+    for (x, class) in [
+        (f64::NAN, Class::Nan),
+        (f64::NEG_INFINITY, Class::Infinite),
+        (-0.0, Class::Zero),
+        (5e-324, Class::Subnormal),
+        (f64::MIN_POSITIVE, Class::Normal),
+        (f64::MAX, Class::Normal),
+    ] {
+        assert_eq!(classify(x), class);
+    }
+}
+
+#[test]
+fn refusals() {
+    assert_eq!(lround(f64::NAN).unwrap_err().reason, Reason::NotANumber);
+    assert_eq!(
+        lround(f32::INFINITY).unwrap_err().reason,
+        Reason::OutOfRange
+    );
+    for (x, y) in [(f64::INFINITY, 2.0), (1.0, 0.0), (1.0, -0.0)] {
+        let refused = fmod(x, y).unwrap_err();
+        assert_eq!(refused.reason, Reason::NoRemainder);
+        same(refused.value, f64::from_bits(0x7ff8000000000000));
+    }
+    same(fmod(f64::NAN, 0.0).unwrap(), f64::NAN);
+    same(fmod(1.0, f64::INFINITY).unwrap(), 1.0);
+    assert_eq!(
+        nextafter(f64::MIN, f64::NEG_INFINITY).unwrap_err().value,
+        f64::NEG_INFINITY
+    );
+    assert_eq!(
+        lround(1e300).unwrap_err().to_string(),
+        "the result is infinite or does not fit"
+    );
+}
+
+/// A NaN's sign and payload pass through the functions on patterns.
+#[test]
+fn patterns() {
+    assert_eq!(c::ew_floor_f64(0xfff0000000000001), 0xfff8000000000001);
+    assert_eq!(c::ew_fabs_f64(0xfff0000000000001), 0x7ff0000000000001);
+    assert_eq!(c::ew_negate_f32(0x7f800001), 0xff800001);
+}

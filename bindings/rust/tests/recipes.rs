@@ -1,0 +1,105 @@
+//! Sheets and runs through the crate: the examples of the repository, and the lent memory.
+
+use estrenwind::{run, sheet, Fault, TurnedDown, Value, MOST_SHEET, MOST_STEPS};
+use std::fs;
+use std::path::Path;
+
+const RECIPE: &[u8] = b"010000c004000000000000401d000000000000\n\
+                        10000000000000000000000000000000000000\n\
+                        18010000000000000000000000000000000000\n";
+
+fn turned_down(fault: Fault, place: usize) -> TurnedDown {
+    TurnedDown { fault, place }
+}
+
+fn refusal_line(refused: TurnedDown) -> String {
+    format!("ff{:02x}{:02x}", refused.fault as u8, refused.place)
+}
+
+#[test]
+fn the_examples() {
+    let folder = Path::new(env!("CARGO_MANIFEST_DIR")).join("../../examples");
+    let mut found = 0;
+    for entry in fs::read_dir(folder).unwrap() {
+        let example = entry.unwrap().path();
+        if !example.join("recipe").exists() {
+            continue;
+        }
+        found += 1;
+        let read = |name| fs::read_to_string(example.join(name)).unwrap();
+        let recipe = read("recipe");
+        let mut lines = [0; MOST_SHEET];
+        let shown = match sheet(recipe.as_bytes(), &mut lines) {
+            Ok(steps) => String::from_utf8(lines[..37 * steps].to_vec()).unwrap(),
+            Err(refused) => format!("{}\n", refusal_line(refused)),
+        };
+        assert_eq!(shown, read("sheet"));
+        for (frame, expected) in read("frames").lines().zip(read("answers").lines()) {
+            let answer = match run(recipe.as_bytes(), frame.as_bytes(), &mut [0; MOST_STEPS]) {
+                Ok(Value::Double(x)) => format!("01{:016x}", x.to_bits()),
+                Ok(Value::Whole(n)) => format!("02{n:016x}"),
+                Err(refused) => refusal_line(refused),
+            };
+            assert_eq!(answer, expected);
+        }
+    }
+    assert_eq!(found, 4);
+}
+
+#[test]
+fn lent_memory() {
+    let mut words = [7; 5];
+    assert_eq!(
+        run(RECIPE, b"bfe0000000000000", &mut words),
+        Ok(Value::Whole(-1))
+    );
+    assert_eq!(
+        words,
+        [0xbfe0000000000000, 0xbff0000000000000, u64::MAX, 7, 7]
+    );
+    let mut words = [7; 2];
+    assert_eq!(
+        run(RECIPE, b"bfe0000000000000", &mut words),
+        Err(turned_down(Fault::Room, 0))
+    );
+    assert_eq!(words, [7; 2]);
+    let mut lines = [7; 112];
+    assert_eq!(sheet(RECIPE, &mut lines), Ok(3));
+    assert_eq!((lines[110], lines[111]), (b'\n', 7));
+    let mut lines = [7; 110];
+    assert_eq!(sheet(RECIPE, &mut lines), Err(turned_down(Fault::Room, 0)));
+    assert_eq!(lines, [7; 110]);
+}
+
+#[test]
+fn refusals() {
+    let mut words = [0; MOST_STEPS];
+    for (frame, refused, words_for_it) in [
+        (
+            &b""[..],
+            turned_down(Fault::Frame, 0),
+            "the frame does not have 16 digits for each input",
+        ),
+        (
+            b"BFE0000000000000",
+            turned_down(Fault::FrameDigit, 0),
+            "not a lower-case hexadecimal digit in the frame",
+        ),
+        (
+            b"401e000000000000",
+            turned_down(Fault::Input, 0),
+            "step 0: the input is a NaN or outside its range",
+        ),
+    ] {
+        assert_eq!(run(RECIPE, frame, &mut words), Err(refused));
+        assert_eq!(refused.to_string(), words_for_it);
+    }
+    assert_eq!(
+        run(b"", b"", &mut words),
+        Err(turned_down(Fault::Length, 0))
+    );
+    assert_eq!(
+        sheet(&RECIPE[39..], &mut [0; MOST_SHEET]),
+        Err(turned_down(Fault::Ahead, 0))
+    );
+}
