@@ -1,13 +1,20 @@
-# Estrenwind: proved rounding of IEEE 754 numbers, delivered as build/libestrenwind.a and build/estrenwind.h.
+# Estrenwind: proved rounding of IEEE 754 numbers, delivered as build/libestrenwind.a, build/estrenwind.h and the programs build/sheet
+# and build/run.
+
+VERSION = 0.1.0
+PREFIX = /usr/local
+DESTDIR =
 
 CC = gcc
 CXX = g++
 CFLAGS = -O2
 WARNINGS = -Wall -Wextra -Wpedantic -Wconversion -Werror
 CARGO_TESTS = --offline --release --manifest-path tests/Cargo.toml
+CARGO_BINDINGS = --offline --manifest-path bindings/rust/Cargo.toml
 
 LIBRARY = build/libestrenwind.a
 HEADER = build/estrenwind.h
+PROGRAMS = build/sheet build/run
 export ESTRENWIND_LIB_DIR = $(CURDIR)/build
 SOURCES = crates.txt $(shell find crates -name '*.rt' -o -name '*.antt')
 
@@ -17,7 +24,7 @@ need = command -v $(1) >/dev/null || { echo "$(1) is missing: it is needed to $(
 help:  ## this list
 	@awk -F ':.*## ' '/^[a-z-]+:.*## / { printf "  make %-16s %s\n", $$1, $$2 }' Makefile
 
-build: $(LIBRARY) $(HEADER)  ## prove the crates and build the C library: build/libestrenwind.a, build/estrenwind.h
+build: $(LIBRARY) $(HEADER) $(PROGRAMS)  ## prove the crates and build the C library, its header and the programs, in build/
 
 # Every function starts a 64-byte line: where a linker put it would otherwise move its speed by a third.
 $(LIBRARY): $(SOURCES)
@@ -27,15 +34,52 @@ $(LIBRARY): $(SOURCES)
 	@mkdir -p build
 	objcopy --set-section-alignment '.text.*=64' target/staticlib/libc_library.a $@
 
+# Both programs by one check, which proves what they share once.
+$(PROGRAMS) &: $(SOURCES)
+	@$(call need,rt,prove and compile the programs (the Rattle toolchain))
+	rt check sheet run
+	@mkdir -p build
+	cp target/bin/sheet target/bin/run build/
+
 $(HEADER): include/estrenwind.h
 	@mkdir -p build
 	cp $< $@
 
-demo: build  ## show what each rounding makes of a dozen texture indices
+EXAMPLE = texture_index
+
+demo: build  ## an example recipe through both programs, with names and decimal numbers (EXAMPLE=index_clamp for another)
+	@$(call need,$(CC),compile the example)
+	@mkdir -p build/demo
+	$(CC) -std=c99 $(CFLAGS) $(WARNINGS) examples/readable.c -o build/readable
+	build/sheet <examples/$(EXAMPLE)/recipe >build/demo/sheet
+	(cat examples/$(EXAMPLE)/recipe; echo; cat examples/$(EXAMPLE)/frames) | build/run >build/demo/answers
+	@echo
+	@sed -n '1s/^# //p' examples/$(EXAMPLE)/README.md
+	@echo
+	@build/readable examples/$(EXAMPLE)/recipe build/demo/sheet examples/$(EXAMPLE)/frames build/demo/answers
+	@echo
+	@echo "examples/$(EXAMPLE)/README.md says what each line is for."
+
+roundings: build  ## show what each rounding makes of a dozen texture indices
 	@$(call need,$(CC),compile the example)
 	$(CC) -std=c99 $(CFLAGS) $(WARNINGS) -Ibuild examples/roundings.c $(LIBRARY) -o build/roundings
 	@echo
 	@build/roundings
+
+install: build  ## install programs, library, header, pkg-config file and manual pages under PREFIX (DESTDIR is put before it)
+	@$(call need,install,put files in their places (coreutils))
+	sed -e 's|@PREFIX@|$(PREFIX)|' -e 's|@VERSION@|$(VERSION)|' estrenwind.pc.in >build/estrenwind.pc
+	install -d $(addprefix $(DESTDIR)$(PREFIX)/,bin lib/pkgconfig include share/man/man1)
+	install -m 755 $(PROGRAMS) $(DESTDIR)$(PREFIX)/bin
+	install -m 644 $(LIBRARY) $(DESTDIR)$(PREFIX)/lib
+	install -m 644 build/estrenwind.pc $(DESTDIR)$(PREFIX)/lib/pkgconfig
+	install -m 644 $(HEADER) $(DESTDIR)$(PREFIX)/include
+	install -m 644 man/sheet.1 man/run.1 $(DESTDIR)$(PREFIX)/share/man/man1
+
+INSTALLED = bin/sheet bin/run lib/libestrenwind.a lib/pkgconfig/estrenwind.pc include/estrenwind.h share/man/man1/sheet.1 share/man/man1/run.1
+
+uninstall:  ## remove what install put under PREFIX
+	rm -f $(addprefix $(DESTDIR)$(PREFIX)/,$(INSTALLED))
 
 test:  ## the whole gate: .ci/run
 	bash .ci/run
@@ -60,21 +104,51 @@ test-rust: build  ## compare the library with the independent second implementat
 	@$(call need,cargo,build the Rust tests)
 	cargo test $(CARGO_TESTS)
 
+test-bindings: build  ## the Rust crate in bindings/rust: its tests and the examples in its documents
+	@$(call need,cargo,build the Rust crate)
+	cargo test $(CARGO_BINDINGS)
+
+test-install: build  ## install into build/installed, and build and run a C program and the Rust crate against that
+	CC=$(CC) sh tests/c/installed.sh $(CURDIR)/build/installed
+
+test-processors: build  ## the same answers on this processor and on two emulated ones, without and with SSE4.1 and AVX2
+	@$(call need,$(CC),compile the test)
+	@$(call need,cargo,write the recipes)
+	@$(call need,qemu-x86_64,be another processor: make processors-deps)
+	@mkdir -p build/processors.d
+	cargo build --quiet $(CARGO_TESTS) --bin recipe_cases
+	tests/target/release/recipe_cases calls >build/processors.d/calls
+	tests/target/release/recipe_cases input >build/processors.d/input
+	$(CC) -std=gnu99 $(CFLAGS) $(WARNINGS) -fno-builtin -static -Ibuild tests/c/processors.c $(LIBRARY) -lm -o build/processors
+	sh tests/c/processors.sh build
+
+processors-deps:  ## install the emulator for test-processors (Debian, as root)
+	@$(call need,apt-get,install packages)
+	apt-get install -y --no-install-recommends qemu-user
+
+ENDLESS_MIB = 4096
+
+test-endless: build  ## the programs on lines of 4 GiB, in memory that does not grow: long, not in the gate
+	@$(call need,cargo,build the Rust tests)
+	ESTRENWIND_ENDLESS_MIB=$(ENDLESS_MIB) cargo test $(CARGO_TESTS) --test programs -- endless
+
 test-exhaustive: build  ## compare them on every f32 there is, 2^32 patterns a function: long, not in the gate
 	@$(call need,cargo,build the Rust tests)
 	cargo run $(CARGO_TESTS) --bin exhaustive
 
-bench: build  ## time single calls beside glibc, musl and newlib, check the targets, and time runs and sheets beside a plain interpreter
+bench: build  ## time single calls beside glibc, musl and newlib, check the targets, and time runs, sheets and the program run beside plain ones
 	@$(call need,$(CC),compile the benchmark)
 	CC=$(CC) sh bench/references.sh build/bench
 	$(CC) -std=gnu99 -O2 -Wall -Wextra -falign-functions=64 -falign-loops=64 -Ibuild -Ibuild/bench bench/bench.c \
 		build/bench/musl.o build/bench/newlib.o $(LIBRARY) -lm -o build/bench/bench
 	@$(call need,cargo,build the plain interpreter)
-	cargo build --offline --quiet --profile speed --manifest-path tests/Cargo.toml --bin recipe_speed
+	cargo build --offline --quiet --profile speed --manifest-path tests/Cargo.toml --bin recipe_speed --bin reference_run --bin program_speed
 	@echo
 	@build/bench/bench
 	@echo
 	@tests/target/speed/recipe_speed
+	@echo
+	@tests/target/speed/program_speed build/run tests/target/speed/reference_run build/bench
 
 bench-deps:  ## install musl and newlib's source for the benchmark (Debian, as root)
 	@$(call need,apt-get,install packages)
@@ -85,8 +159,10 @@ fmt:  ## put Rattle and Rust sources in their layout
 	@$(call need,cargo,format the Rust tests)
 	rt fmt
 	cargo fmt --manifest-path tests/Cargo.toml
+	cargo fmt --manifest-path bindings/rust/Cargo.toml
 
 clean:  ## remove everything that was built
-	rm -rf build target tests/target
+	rm -rf build target tests/target bindings/rust/target
 
-.PHONY: help build demo test test-c test-rust test-exhaustive bench bench-deps fmt clean
+.PHONY: help build demo roundings install uninstall test test-c test-rust test-bindings test-install test-processors processors-deps test-endless \
+	test-exhaustive bench bench-deps fmt clean

@@ -51,7 +51,7 @@ enum {
     EW_REFUSED_DECLARED = 16, /* a NaN in a double input or constant, or an input's low end above its high end */
     EW_REFUSED_INPUTS = 17,   /* a seventeenth input */
 
-    /* A step of a run; the place is its number. */
+    /* A step of a run or a sheet; the place is its number. A sheet refuses where some frame could be refused. */
     EW_REFUSED_REMAINDER = 20, /* fmod of an infinite number, or by zero */
     EW_REFUSED_OVERFLOW = 21,  /* lround, a whole sum or difference, or ldexp out of range */
     EW_REFUSED_INEXACT = 22,   /* a whole number over 2^53 in magnitude, to be made a double */
