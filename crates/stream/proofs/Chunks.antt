@@ -35,11 +35,11 @@ pub data Chunk : State → List ℕ → List ℕ → ℕ → List ℕ → State 
       → Chunk s buffer chunk from (written ++ more) last end
 
 -- the input's chunks from a state on, up to the end of the input, or up to a refused recipe, after which the rest is not looked at
-pub data Session : State → List ℕ → List (List ℕ) → List ℕ → Type 0 where
-  ended : (s : State) (buffer written : List ℕ) → Finishes s buffer written → Session s buffer [] written
-  stops : (s : State) (buffer : List ℕ) (chunks : List (List ℕ)) → s .stage ≡ Done → Session s buffer chunks []
+pub data Course : State → List ℕ → List (List ℕ) → List ℕ → Type 0 where
+  ended : (s : State) (buffer written : List ℕ) → Finishes s buffer written → Course s buffer [] written
+  stops : (s : State) (buffer : List ℕ) (chunks : List (List ℕ)) → s .stage ≡ Done → Course s buffer chunks []
   takes : (s : State) (buffer chunk written : List ℕ) (next : State) (after : List ℕ) (chunks : List (List ℕ)) (more : List ℕ)
-      → Chunk s buffer chunk 0 written next after → Session next after chunks more → Session s buffer (chunk ∷ chunks) (written ++ more)
+      → Chunk s buffer chunk 0 written next after → Course next after chunks more → Course s buffer (chunk ∷ chunks) (written ++ more)
 
 -- the whole input
 pub joined : List (List ℕ) → List ℕ
@@ -93,18 +93,18 @@ stopped-owes s buffer (heading t) h e rest = let z : _≡_ {A = ℕ} 0 1 = cc (h
 stopped-owes s buffer (running t l) h e rest = let z : _≡_ {A = ℕ} 0 1 = cc (h .0) in absurd (omega arith)
 stopped-owes s buffer stopped h e rest = refl
 
-session : (s : State) (buffer : List ℕ) (chunks : List (List ℕ)) (written : List ℕ) → Session s buffer chunks written
+course : (s : State) (buffer : List ℕ) (chunks : List (List ℕ)) (written : List ℕ) → Course s buffer chunks written
     → (g : Reading) → Stands g s buffer → owed g (joined chunks) ≡ written
 unfolding joined
-session s buffer chunks written (ended _ _ _ f) g h = f g h
-session s buffer chunks written (stops _ _ _ e) g h = stopped-owes s buffer g h e (joined chunks)
-session s buffer chunks written (takes _ _ chunk w next after cs more c k) g h =
+course s buffer chunks written (ended _ _ _ f) g h = f g h
+course s buffer chunks written (stops _ _ _ e) g h = stopped-owes s buffer g h e (joined chunks)
+course s buffer chunks written (takes _ _ chunk w next after cs more c k) g h =
     let a : Feeds s buffer chunk w next after = rw (between-whole chunk) at (chunk-fed s buffer chunk 0 w next after c .1) in
     let b = a g h in
-    b .owes (joined cs) ∙ ap (λ (x : List ℕ). w ++ x) (session next after cs more k (b .next) (b .stands))
+    b .owes (joined cs) ∙ ap (λ (x : List ℕ). w ++ x) (course next after cs more k (b .next) (b .stands))
 
 -- however the input is cut into chunks, what is written is the output of the whole
-pub any-chunks : (s : State) (buffer : List ℕ) (chunks : List (List ℕ)) (written : List ℕ) → Starts s → Session s buffer chunks written
+pub any-chunks : (s : State) (buffer : List ℕ) (chunks : List (List ℕ)) (written : List ℕ) → Starts s → Course s buffer chunks written
     → written ≡ runOutput (joined chunks)
 unfolding owed runOutput
-any-chunks s buffer chunks written e k = sym (session s buffer chunks written k (heading []) (e buffer))
+any-chunks s buffer chunks written e k = sym (course s buffer chunks written k (heading []) (e buffer))
