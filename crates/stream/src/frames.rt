@@ -62,7 +62,7 @@ fn keep(buffer: &mut [u8], n: usize, part: &[u8]) -> usize
 
 // Answers the lines of s from a place on, until no line feed is left or out has too little room for another answer.
 //
-// The recipe is handed down by value, and is large: all frames go through this loop, into which the run is inlined.
+// `frame_line` is called from here alone, so that it is inlined: the recipe goes by value, and a call that is left copies it.
 fn answer_lines(recipe: Recipe, s: &[u8], from: usize, out: &mut [u8]) -> Lines
     requires { ⌜ (from ≤ length (now s)) × (19 ≤ length (now out)) ⌝ }
     ensures { λ r. ⌜ (r .put ≤ length (now (out .entry))) × Answered recipe (now (s .entry)) from r (now (out .exit)) ⌝ }
