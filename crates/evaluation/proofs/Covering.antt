@@ -1,7 +1,7 @@
 -- The sheet as floats carry it is the sheet: of steps that were read no range has an end that is a NaN. Each step's range holds some value,
 -- as the sheet's promise says of the values before it, and a range that holds a value is one of numbers. Assumes nothing.
-use mathlib.Core.Path.{_≡_, refl, sym, ap, _∙_}
-use mathlib.Core.Bool.{Bool, not, _||_, cond, false}
+use mathlib.Core.Path.{_≡_, refl}
+use mathlib.Core.Bool.{_||_, false}
 use mathlib.Core.List.{List, [], _∷_, _++_}
 use Prim.Native.Nat.{ℕ, suc, _+_}
 use native.Mathlib.Omega.{arith}
@@ -18,7 +18,7 @@ use Rattle.recipe.specs.declared.Step.{Step}
 use Rattle.recipe.specs.Table.{rowOf}
 use Rattle.recipe.specs.Text.{first, second, badRange, doubleAbove}
 use Rattle.evaluation.specs.Value.{Datum, Outcome, stepValue}
-use Rattle.evaluation.specs.Range.{Range, doubles, wholes, Ranged, ranged, stepRange}
+use Rattle.evaluation.specs.Range.{Range, doubles, wholes, Ranged, ranged}
 use Rattle.evaluation.specs.Range as range
 use Rattle.evaluation.specs.Frame.{outside}
 use Rattle.evaluation.specs.Run.{noValue}

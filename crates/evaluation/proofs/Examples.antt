@@ -4,7 +4,7 @@ use mathlib.Core.Path.{_≡_, refl}
 use mathlib.Core.List.{List, [], _∷_, _++_, map}
 use Prim.Native.Nat.{ℕ}
 use lib.Ieee.{size, span, climb}
-use lib.IntN.{ℤ, pos, negsuc}
+use lib.IntN.{pos, negsuc}
 use Rattle.float_format.specs.Format.{isNan, isInfinite, isZero, quieted, absolute, negated}
 use Rattle.float_format.specs.Number.{magnitude, encode, above, under}
 use Rattle.float_format.specs.Rounding.{parts, wholePart, integral, lroundRefusal, lroundValue}
@@ -12,9 +12,9 @@ use Rattle.ordering.specs.Ordering.{fmin, fmax}
 use Rattle.scaling.specs.Scaling.{nearest, scaled, ldexp, ldexpRefusal}
 use Rattle.hex.specs.Hex.{digits, fieldOf, digitOf}
 use Rattle.recipe.specs.Table.{rowOf}
-use Rattle.recipe.specs.Text.{short, readText, readFrom, onNext, nextOf, judged, stepRefusal, inputsIn, lineAt, fromFields}
+use Rattle.recipe.specs.Text.{readText, readFrom, onNext, nextOf, judged, stepRefusal, inputsIn, lineAt, fromFields}
 use Rattle.recipe.proofs.Examples.{bytes, lines}
-use Rattle.evaluation.specs.Value.{whole, ruleOf, stepValue}
+use Rattle.evaluation.specs.Value.{ruleOf, stepValue}
 use Rattle.evaluation.specs.Range.{Range, doubles, wholes, Ranged, ranged, refused, rangeRule, stepRange}
 use Rattle.evaluation.specs.Frame.{onField, onWords, wordsFrom, readFrame}
 use Rattle.evaluation.specs.Frame as frame

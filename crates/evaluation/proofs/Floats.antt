@@ -1,15 +1,15 @@
 -- A pattern that is not a NaN, carried as a float of the language: it is one that is not a NaN, and has the same bits. Assumes nothing.
-use mathlib.Core.Path.{_≡_, refl, sym, ap, _∙_}
-use mathlib.Core.Bool.{Bool, true, false, not, cond}
+use mathlib.Core.Path.{_≡_, sym, ap, _∙_}
+use mathlib.Core.Bool.{Bool, true, false, not}
 use mathlib.Core.Logic.{_⊎_, ⊎-elim}
-use Prim.Native.Nat.{ℕ, _*_, _^_, _<_}
+use Prim.Native.Nat.{ℕ, _^_, _<_}
 use native.Mathlib.Omega.{arith}
 use lib.Dec.{T}
 use lib.Ieee as Ieee
 use lib.Ieee.Bits.{nanBits-is, nanBits-above, toBits-ofBits}
 use Rattle.float_format.specs.Format.{binary64, isNan}
 use Rattle.float_format.proofs.Patterns.{nan-is}
-use Rattle.evaluation.specs.Value.{Datum, double, real}
+use Rattle.evaluation.specs.Value.{double, real}
 
 nan-same : (x : ℕ) → Ieee.nanBits Ieee.binary64 x ≡ isNan binary64 x
 nan-same x = nanBits-above Ieee.binary64 x ∙ sym (nan-is binary64 x)

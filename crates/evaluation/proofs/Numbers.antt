@@ -23,7 +23,7 @@ use Rattle.recipe.proofs.Laws as reader
 use Rattle.evaluation.specs.Value.{Datum, Outcome, done, refused, asDouble, asWhole, fitsWord, ruleOf, stepValue}
 use Rattle.evaluation.specs.Frame.{Frame, onField, wordsFrom, outside, ranged, onWords, readFrame}
 use Rattle.evaluation.specs.Frame as frame
-use Rattle.evaluation.specs.Run.{Run, completed, stepOn, onOutcome, runFrom, onFrame, onText, runOf}
+use Rattle.evaluation.specs.Run.{Run, completed, onOutcome, runFrom, onFrame, onText, runOf}
 use Rattle.evaluation.specs.Run as run
 
 -- ---- a step

@@ -1,5 +1,5 @@
 -- The step rules and the range rules by an opcode: at one that the table has, and at any other. Assumes nothing.
-use mathlib.Core.Path.{_≡_, sym, ap}
+use mathlib.Core.Path.{_≡_}
 use Prim.Native.Nat.{ℕ}
 use lib.IntN.{ℤ, pos}
 use borrow.Author.Tests.{ne-eqb}

@@ -20,7 +20,7 @@ use Rattle.evaluation.specs.declared.Outcome.the-variants.{Done, Refused
 use Rattle.evaluation.specs.Value.{Datum, wordOf, done, stepValue}
 use Rattle.evaluation.specs.Value as value
 use Rattle.evaluation.specs.Seen.{seen, Real, outcomeOf, RealOutcome}
-use Rattle.evaluation.specs.Run.{completed, refused, noValue, stepOn, onOutcome, runFrom, lastOf, wordsOf}
+use Rattle.evaluation.specs.Run.{completed, refused, stepOn, onOutcome, runFrom, lastOf, wordsOf}
 use Rattle.evaluation.specs.Stages.{Same}
 use Rattle.evaluation.proofs.Lists.{grow, next-of, none-left}
 use Rattle.evaluation.proofs.Filled.{Filled, filled-start, filled-more, fetch-all, fetch, fetch-last}

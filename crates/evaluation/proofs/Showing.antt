@@ -3,7 +3,7 @@
 use mathlib.Core.Path.{_≡_, refl, ap, sym, _∙_}
 use mathlib.Core.Bool.{cond}
 use mathlib.Core.List.{List, [], _∷_, _++_, map, map-append, append-assoc, append-nil}
-use Prim.Native.Nat.{ℕ, zero, suc, _+_, _*_, _≤_, _<_}
+use Prim.Native.Nat.{ℕ, suc, _+_, _*_, _≤_, _<_}
 use native.Mathlib.Omega.{arith}
 use native.Mathlib.Numerals.{add-one}
 use lib.Dec.{ltb}
@@ -22,7 +22,7 @@ use Rattle.evaluation.specs.declared.Bound.{Bound}
 use Rattle.evaluation.specs.declared.Bound.the-variants.{Ranged, Refused}
 use Rattle.evaluation.specs.Range.{kindOf, lowWord, highWord, stepRange}
 use Rattle.evaluation.specs.Range as range
-use Rattle.evaluation.specs.Sheet.{Sheet, passed, refused, noRange, stepOn, onRanged, lineOf, linesFrom, bytesOf}
+use Rattle.evaluation.specs.Sheet.{passed, refused, stepOn, onRanged, lineOf, linesFrom, bytesOf}
 use Rattle.evaluation.specs.Seen.{seenRange, RealRange, boundOf, RealBound}
 use Rattle.evaluation.specs.Carried.{carried, carriedFrom}
 use Rattle.evaluation.proofs.Lists.{grow, next-of, none-left}

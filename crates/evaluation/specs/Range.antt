@@ -6,11 +6,12 @@ use lib.Dec.{eqb, leb}
 use lib.IntN.{ℤ, pos, natAbs, _+ℤ_, _-ℤ_}
 use mir.Syntax.{w64}
 use mir.Val.{toZ, ofZ}
+use Rattle.float_format.specs.Number.{below}
 use Rattle.float_format.specs.Format.{binary64, isInfinite, absolute, negated}
 use Rattle.float_format.specs.Rounding.{integral, lroundRefusal, lroundValue}
 use Rattle.float_format.specs.declared.Direction.the-variants.{Down, Up, TowardZero, HalfAway, HalfEven}
 use Rattle.float_format.specs.declared.Direction.{Direction}
-use Rattle.ordering.specs.Ordering.{below, fmin, fmax}
+use Rattle.ordering.specs.Ordering.{fmin, fmax}
 use Rattle.scaling.specs.Scaling.{ldexp, ldexpRefusal}
 use Rattle.recipe.specs.declared.Kind.{Kind}
 use Rattle.recipe.specs.declared.Kind.the-variants.{Double, Whole}

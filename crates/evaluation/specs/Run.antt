@@ -1,6 +1,5 @@
 -- The run call: a fold over the steps, and what it answers and writes (document 01, "Turning text down"). Definitions only; assumes
 -- nothing.
-use mathlib.Core.Path.{_≡_}
 use mathlib.Core.Bool.{cond}
 use mathlib.Core.List.{List, [], _∷_, _++_, map}
 use Prim.Native.Nat.{ℕ, suc, _+_, _-_}

@@ -2,8 +2,7 @@
 ghost use mathlib.Core.Path.{_≡_};
 ghost use mathlib.Core.Bool.{cond};
 ghost use Rattle.float_format.specs.Format.{binary64, isInfinite};
-ghost use Rattle.ordering.specs.Ordering.{below};
-ghost use Rattle.evaluation.specs.Range.{doubles, wholes, low, high, infiniteEnd, holdsZero, greatest, isNegative, isPositive, fractionLow, fractionHigh, absoluteRange, fmodLow, fmodHigh, fmodRange, ldexpRange, stepRange};
+ghost use Rattle.evaluation.specs.Range.{doubles, wholes, infiniteEnd, holdsZero, greatest, isNegative, isPositive, fractionLow, fractionHigh, absoluteRange, fmodLow, fmodHigh, fmodRange, ldexpRange, stepRange};
 ghost use Rattle.evaluation.specs.Range as range;
 ghost use Rattle.evaluation.specs.Seen.{RealRange, seenRange, outcomeOf, RealOutcome, boundOf, RealBound};
 ghost use Rattle.evaluation.specs.Carried.{between, carried};

@@ -1,9 +1,9 @@
 -- The number that a pattern stands for, as a whole number of units, and the order of numbers (document 01, "Numbers as whole
 -- numbers"). A unit is the format's smallest subnormal: 2^-1074, 2^-149. An infinity's pattern counts by the same rule, which puts it
 -- beyond every finite number. Definitions only; assumes nothing.
-use mathlib.Core.Bool.{cond}
+use mathlib.Core.Bool.{Bool, cond}
 use Prim.Native.Nat.{ℕ, suc, _+_, _-_, _*_, _/_, _%_, _^_, _≤_}
-use lib.Dec.{eqb}
+use lib.Dec.{ltb, eqb}
 use lib.Ieee.{size}
 use Rattle.float_format.specs.Format.{Format, signBit, negative, unsigned}
 
@@ -37,6 +37,10 @@ under f x = cond (negative f x) (magnitude (f .fraction) (unsigned f x)) 0
 -- x's number is at most y's: above x - under x ≤ above y - under y, with no difference taken. The two zeros are equal.
 abbrev pub AtMost : Format → ℕ → ℕ → Type 0
 AtMost f x y = above f x + under f y ≤ above f y + under f x
+
+-- x's number is below y's, as a test
+abbrev pub below : Format → ℕ → ℕ → Bool
+below f x y = ltb (above f x + under f y) (above f y + under f x)
 
 -- A whole number by which patterns compare as their numbers do: the sign's weight, and the rest of the pattern added or taken away.
 unfoldable pub rank : Format → ℕ → ℕ

@@ -8,11 +8,11 @@ use native.Mathlib.Omega.{arith}
 use lib.Dec.{ltb}
 use borrow.Author.Tests.{eq-eqb, lt-ltb, le-ltb, ltb-true, ltb-false}
 use Rattle.float_format.specs.Format.{Format, Valid, signBit, infinity, negative, unsigned, signed, isNan, quieted}
-use Rattle.float_format.specs.Number.{AtMost, rank}
+use Rattle.float_format.specs.Number.{AtMost, rank, below}
 use Rattle.float_format.proofs.Units.{three-way}
 use Rattle.float_format.proofs.Patterns.{below-sign, unsigned-signed}
 use Rattle.float_format.proofs.Order.{rank-at, rank-equal}
-use Rattle.ordering.specs.Ordering.{below, nextafter}
+use Rattle.ordering.specs.Ordering.{nextafter}
 use Rattle.ordering.specs.Shape.{moved}
 use Rattle.ordering.proofs.Ranks.{side, Below, below-rank, rank-below, below-is, differ-where, rank-signed, number-rest, number-where}
 use Rattle.ordering.proofs.Steps.{room-beyond, moved-rank, moved-zero, at-first-nan, at-second-nan, at-same, at-zero, at-number}

@@ -9,11 +9,11 @@ use native.Mathlib.Omega.{arith}
 use lib.Dec.{ltb, eqb}
 use borrow.Author.Tests.{eq-eqb, ne-eqb, eqb-true, eqb-false, lt-ltb, le-ltb, ltb-false}
 use Rattle.float_format.specs.Format.{Format, signBit, infinity, unsigned, signed, isNan, isInfinite, isZero}
-use Rattle.float_format.specs.Number.{above, under, rank}
+use Rattle.float_format.specs.Number.{above, under, rank, below}
 use Rattle.float_format.proofs.Units.{lt-or-ge, three-way}
 use Rattle.float_format.proofs.Patterns.{nan-is, infinite-is, negative-signed, unsigned-signed}
 use Rattle.float_format.proofs.Order.{rank-at, rank-order, rank-equal}
-use Rattle.ordering.specs.Ordering.{below, same}
+use Rattle.ordering.specs.Ordering.{same}
 
 -- x's side of a comparison with y, in which no difference is taken
 abbrev pub side : Format → ℕ → ℕ → ℕ

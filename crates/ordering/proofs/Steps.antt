@@ -8,13 +8,13 @@ use native.Mathlib.Omega.{arith}
 use lib.Pow.{pow-mono}
 use borrow.Author.Tests.{eq-eqb, ne-eqb}
 use Rattle.float_format.specs.Format.{Format, Valid, signBit, infinity, negative, unsigned, signed, isNan, isInfinite, quieted}
-use Rattle.float_format.specs.Number.{bias, rank}
+use Rattle.float_format.specs.Number.{bias, rank, below}
 use Rattle.float_format.proofs.Units.{lt-or-ge, three-way}
 use Rattle.float_format.proofs.Patterns.{unsigned-signed, signed-lt}
 use Rattle.float_format.proofs.Integral.{room}
 use Rattle.float_format.proofs.Order.{rank-at}
 use Rattle.float_format.proofs.Sizes as sizes
-use Rattle.ordering.specs.Ordering.{below, same, nextafter, nextafterRefusal}
+use Rattle.ordering.specs.Ordering.{same, nextafter, nextafterRefusal}
 use Rattle.ordering.specs.Shape.{Nonzero, moved, refusal}
 use Rattle.ordering.proofs.Ranks.{turned, zero-is, nan-where, number-where, infinite-where, finite-where, rank-signed}
 

@@ -1,15 +1,12 @@
 -- Choosing by the order of numbers, and stepping along it (document 01, "Function rules": nextafter, fmin, fmax). Definitions only;
 -- assumes nothing.
-use mathlib.Core.Bool.{Bool, not, _&&_, _||_, cond}
+use mathlib.Core.Bool.{Bool, not, _&&_, cond}
 use Prim.Native.Nat.{ℕ, _+_, _-_}
-use lib.Dec.{ltb, eqb}
+use lib.Dec.{eqb}
 use Rattle.float_format.specs.Format.{Format, negative, unsigned, signed, isNan, isInfinite, isZero, quieted}
-use Rattle.float_format.specs.Number.{above, under}
+use Rattle.float_format.specs.Number.{above, under, below}
 
--- ---- the order as tests: x's number is below y's, or the same (`AtMost` says it as a fact)
-
-abbrev pub below : Format → ℕ → ℕ → Bool
-below f x y = ltb (above f x + under f y) (above f y + under f x)
+-- ---- the order as a test: x's number is y's (`below` and, as a fact, `AtMost` stand with the numbers)
 
 abbrev pub same : Format → ℕ → ℕ → Bool
 same f x y = eqb (above f x + under f y) (above f y + under f x)

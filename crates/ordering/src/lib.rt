@@ -7,9 +7,9 @@
 ghost use mathlib.Core.Path.{_≡_};
 ghost use Prim.Native.Nat.{_*_, _<_};
 ghost use Rattle.float_format.specs.Format.{signBit};
-ghost use Rattle.float_format.specs.Number.{rank};
+ghost use Rattle.float_format.specs.Number.{rank, below};
 ghost use Rattle.float_format.specs.Width.{format, InWord};
-ghost use Rattle.ordering.specs.Ordering.{below, chosen, fmin, fmax, nextafter};
+ghost use Rattle.ordering.specs.Ordering.{chosen, fmin, fmax, nextafter};
 ghost use Rattle.ordering.specs.Shape.{Operands, Nonzero, moved, refusal};
 use float_format::width::infinity_of;
 use float_format::width::quiet;

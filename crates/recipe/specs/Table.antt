@@ -1,9 +1,8 @@
 -- The step table (document 01, "Recipe text"): what each opcode takes and gives. Reader, run and sheet go by it. Definitions only;
 -- assumes nothing.
-use mathlib.Core.Bool.{Bool, true, false, cond}
+use mathlib.Core.Bool.{Bool, true, false, _&&_, cond}
 use Prim.Native.Nat.{ℕ}
 use lib.Dec.{eqb, leb}
-use mathlib.Core.Bool.{_&&_, _||_}
 use Rattle.recipe.specs.declared.Kind.{Kind}
 use Rattle.recipe.specs.declared.Kind.the-variants.{Double, Whole}
 use Rattle.recipe.specs.declared.Row.{Row}

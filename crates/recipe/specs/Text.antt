@@ -9,7 +9,7 @@ use lib.Signed.{leZ}
 use mir.Syntax.{w64}
 use mir.Val.{toZ}
 use Rattle.float_format.specs.Format.{binary64, isNan}
-use Rattle.float_format.specs.Number.{above, under}
+use Rattle.float_format.specs.Number.{below}
 use Rattle.hex.specs.Hex.{fieldOf}
 use Rattle.hex.specs.declared.Field.{Field}
 use Rattle.hex.specs.declared.Field.the-variants.{Value, Malformed as Bad}
@@ -106,7 +106,7 @@ wrongKind (Binary a b k) l t = not (sameKind (kindAt l (first t)) a) || not (sam
 
 -- p's number is above q's
 abbrev pub doubleAbove : ℕ → ℕ → Bool
-doubleAbove p q = ltb (above binary64 q + under binary64 p) (above binary64 p + under binary64 q)
+doubleAbove p q = below binary64 q p
 
 abbrev pub wholeAbove : ℕ → ℕ → Bool
 wholeAbove p q = not (leZ (toZ w64 p) (toZ w64 q))

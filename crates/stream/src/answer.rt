@@ -15,7 +15,7 @@ use recipe::Recipe;
 pub const LINE: usize = 19;
 
 // Writes a refusal line at the start of out, and answers its length.
-pub fn refusal_line(number: u64, place: u64, out: &mut [u8]) -> usize
+pub(crate) fn refusal_line(number: u64, place: u64, out: &mut [u8]) -> usize
     requires { ⌜ 19 ≤ length (now out) ⌝ }
     ensures { λ r. ⌜ Put (refusalLine number place) r (now (out .exit)) ⌝ }
 {
@@ -41,7 +41,7 @@ fn answer_line(a: RunAnswer, out: &mut [u8]) -> usize
 }
 
 // The same of a frame line, its line feed left out. Refuses 30 where it is longer than the longest frame.
-pub fn frame_line(recipe: Recipe, line: &[u8], out: &mut [u8]) -> usize
+pub(crate) fn frame_line(recipe: Recipe, line: &[u8], out: &mut [u8]) -> usize
     requires { ⌜ 19 ≤ length (now out) ⌝ }
     ensures { λ r. ⌜ (r ≤ 19) × ((t : List ℕ) → Says (readText short t) recipe → take r (now (out .exit)) ≡ frameLine t (now (line .entry))) ⌝ }
 {

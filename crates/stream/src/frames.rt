@@ -89,7 +89,7 @@ fn answer_lines(recipe: Recipe, s: &[u8], from: usize, out: &mut [u8]) -> Lines
 }
 
 // Answers a line of which n bytes are kept.
-pub fn kept_line(recipe: Recipe, buffer: &mut [u8], n: usize, out: &mut [u8]) -> usize
+pub(crate) fn kept_line(recipe: Recipe, buffer: &mut [u8], n: usize, out: &mut [u8]) -> usize
     requires { ⌜ (257 ≤ length (now buffer)) × (19 ≤ length (now out)) ⌝ }
     ensures { λ r. ⌜ (r ≤ length (now (out .entry))) × (
         (t l : List ℕ) → Says (readText short t) recipe → Kept l n (now (buffer .entry)) → NoFeed l → take r (now (out .exit)) ≡ frameLine t l) ⌝ }
@@ -135,7 +135,7 @@ fn take_rest(
 
 // Takes the rest of a line of which a part is kept; else line after line, until the chunk is used up or out has too little room for another
 // answer.
-pub fn take_lines(
+pub(crate) fn take_lines(
     recipe: Recipe,
     buffer: &mut [u8],
     count: usize,

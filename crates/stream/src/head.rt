@@ -24,7 +24,7 @@ pub struct Head {
 }
 
 // Adds the chunk's bytes to the count bytes of the recipe that stand in the buffer, up to its end.
-pub fn take_recipe(buffer: &mut [u8], count: usize, chunk: &[u8], from: usize) -> Head
+pub(crate) fn take_recipe(buffer: &mut [u8], count: usize, chunk: &[u8], from: usize) -> Head
     requires { ⌜ (length (now buffer) ≡ 4993) × (count ≤ 4993) × (from < length (now chunk)) ⌝ }
     ensures { λ r. ⌜ (from < r .at) × (r .at ≤ length (now (chunk .entry))) × (r .count ≤ 4993) × ((s : List ℕ) →
         partAfter (take count (now (buffer .entry))) (between from (r .at) (now (chunk .entry)) ++ s) ≡ parts (r .end) (take (r .count) (now (buffer .exit))) s) ⌝ }

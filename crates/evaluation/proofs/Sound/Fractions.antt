@@ -9,12 +9,12 @@ use native.Mathlib.Omega.{arith}
 use lib.Dec.{eqb}
 use borrow.Author.Tests.{ltb-true, ltb-false, ne-eqb, eqb-false}
 use Rattle.float_format.specs.Format.{binary64, infinity, negative, unsigned, isNan, isInfinite, absolute, negated}
-use Rattle.float_format.specs.Number.{magnitude, one, above, under, AtMost}
+use Rattle.float_format.specs.Number.{magnitude, one, above, under, AtMost, below}
 use Rattle.float_format.proofs.Units.{lt-or-ge, magnitude-at, magnitude-mono-le}
 use Rattle.float_format.proofs.Patterns.{infinite-is, unsigned-signed}
 use Rattle.float_format.proofs.Order.{unitsOf, magnitude-zero, above-at, under-at, above-negated, under-negated}
 use Rattle.float_format.proofs.Laws.{one-pos}
-use Rattle.ordering.specs.Ordering.{below, fmin, fmax}
+use Rattle.ordering.specs.Ordering.{fmin, fmax}
 use Rattle.ordering.proofs.MinMax.{fmin-first}
 use Rattle.ordering.proofs.Ranks.{zero-is}
 use Rattle.splitting.specs.Splitting.{modfFraction}

@@ -6,11 +6,10 @@ use Prim.Native.Nat.{ℕ, _^_, _<_, _≤_}
 use native.Mathlib.Omega.{arith}
 use lib.Dec.{eqb, leb}
 use lib.IntN.{ℤ, natAbs, _+ℤ_, _-ℤ_}
-use Rattle.float_format.specs.Format.{binary64, absolute, negated}
-use Rattle.float_format.specs.Rounding.{lroundRefusal, lroundValue}
+use Rattle.float_format.specs.Format.{binary64}
+use Rattle.float_format.specs.Rounding.{lroundRefusal}
 use Rattle.float_format.proofs.Units.{lt-or-ge}
-use Rattle.ordering.specs.Ordering.{fmin, fmax}
-use Rattle.scaling.specs.Scaling.{ldexp, ldexpRefusal}
+use Rattle.scaling.specs.Scaling.{ldexpRefusal}
 use Rattle.recipe.specs.declared.Kind.{Kind}
 use Rattle.recipe.specs.declared.Kind.the-variants.{Double, Whole}
 use Rattle.recipe.specs.declared.Row.the-variants.{Unknown}
@@ -19,9 +18,9 @@ use Rattle.recipe.specs.Table.{rowOf, answerKind}
 use Rattle.recipe.specs.Text.{isUnknown}
 use Rattle.recipe.specs.Text as text
 use Rattle.recipe.proofs.Rows.{before-10, before-20, before-30, after-32}
-use Rattle.evaluation.specs.Value.{Datum, double, whole, fitsWord, ofWhole}
+use Rattle.evaluation.specs.Value.{Datum, double, whole, fitsWord}
 use Rattle.evaluation.specs.Value as value
-use Rattle.evaluation.specs.Range.{Range, doubles, wholes, low, high, least, most, isNegative, isPositive, absoluteRange, lroundRange, holdsZero, infiniteEnd, greatest, fmodRange, lowPower, highPower, ldexpRange, wholeRange, doubleRange, Ranged, ranged, rangeRule, stepRange}
+use Rattle.evaluation.specs.Range.{Range, doubles, wholes, low, high, least, most, isNegative, isPositive, absoluteRange, lroundRange, holdsZero, infiniteEnd, fmodRange, lowPower, highPower, ldexpRange, wholeRange, doubleRange, Ranged, ranged, rangeRule, stepRange}
 use Rattle.evaluation.specs.Range as range
 use Rattle.evaluation.specs.Promise.{Lies}
 use Rattle.evaluation.proofs.Rules.{Unlisted}

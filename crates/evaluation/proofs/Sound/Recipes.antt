@@ -5,7 +5,7 @@ use mathlib.Core.Bool.{Bool, true, false, cond}
 use mathlib.Core.List.{List, [], _∷_, _++_, map, append-assoc, append-nil}
 use Prim.Native.Nat.{ℕ, suc, _+_, _*_, _≤_, _<_}
 use native.Mathlib.Omega.{arith}
-use lib.Dec.{ltb, eqb}
+use lib.Dec.{eqb}
 use lib.ListN.{length, getD, take, drop, length-append, List·getD-append, List·getD-eq-default}
 use lib.Seq.{getD-at}
 use borrow.Author.Tests.{le-ltb}
@@ -18,7 +18,6 @@ use Rattle.recipe.specs.Text as text
 use Rattle.recipe.specs.Answer.{Formed}
 use Rattle.recipe.proofs.Laws.{step-checked, read-formed}
 use Rattle.evaluation.specs.Value.{Datum, wordOf, Outcome, stepValue}
-use Rattle.evaluation.specs.Value as value
 use Rattle.evaluation.specs.Range.{Range, Ranged, ranged, stepRange}
 use Rattle.evaluation.specs.Range as range
 use Rattle.evaluation.specs.Frame.{Frame, words, outside, onWords, wordsFrom, readFrame}

@@ -17,7 +17,7 @@ use Rattle.recipe.specs.Text.{steps, short, inputsIn, readText}
 use Rattle.evaluation.specs.Range.{Range}
 use Rattle.evaluation.specs.Frame.{Frame, words, outside, onField, wordsFrom, onWords, readFrame}
 use Rattle.evaluation.specs.Frame as frame
-use Rattle.evaluation.specs.Run.{Run, onFrame, runFrom, runOf}
+use Rattle.evaluation.specs.Run.{Run, onFrame, runOf}
 use Rattle.evaluation.specs.Run as run
 use Rattle.evaluation.specs.Sheet.{passed, sheetFrom}
 use Rattle.evaluation.proofs.Sound.Kept.{never}

@@ -15,7 +15,7 @@ use Rattle.recipe.specs.Table.{rowOf}
 use Rattle.recipe.specs.Text.{badRange}
 use Rattle.recipe.specs.Answer.{Checked}
 use Rattle.evaluation.specs.Value.{Datum, asDouble, asWhole, ruleOf, stepValue}
-use Rattle.evaluation.specs.Range.{Range, wholes, low, high, least, most, ranged, rangeRule, stepRange}
+use Rattle.evaluation.specs.Range.{Range, low, high, least, most, ranged, rangeRule, stepRange}
 use Rattle.evaluation.specs.Frame.{outside}
 use Rattle.evaluation.specs.Promise.{Lies, Proper}
 use Rattle.evaluation.proofs.Rules.{Unlisted, unlisted, range-unlisted}

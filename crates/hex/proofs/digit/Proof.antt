@@ -1,5 +1,5 @@
 -- `digit` meets its contract, by the row of digits that the byte stands in, or none. Assumes nothing.
-use mathlib.Core.Path.{_≡_, _∙_}
+use mathlib.Core.Path.{_∙_}
 use mathlib.Core.Logic.{⊎-elim}
 use Rattle.hex.proofs.Digits.{digit-decimal, digit-letter, digit-none}
 use borrow.Author.Needs.{needs}

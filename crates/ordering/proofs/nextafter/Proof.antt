@@ -5,10 +5,11 @@ use Prim.Native.Nat.{_<_, _≤_}
 use native.Mathlib.Omega.{arith}
 use lib.Dec.{ltb}
 use borrow.Author.Tests.{eq-eqb, ne-eqb}
+use Rattle.float_format.specs.Number.{below}
 use Rattle.float_format.specs.Format.{Format, isNan, unsigned, infinity}
 use Rattle.float_format.specs.Width.{format}
 use Rattle.float_format.proofs.Sizes.{sizes}
-use Rattle.ordering.specs.Ordering.{same, below}
+use Rattle.ordering.specs.Ordering.{same}
 use Rattle.ordering.proofs.Ranks.{nan-where, number-where, same-is, below-is}
 use Rattle.ordering.proofs.Steps.{at-first-nan, at-second-nan, at-same, stepped, from-zero}
 use borrow.Author.Needs.{needs}

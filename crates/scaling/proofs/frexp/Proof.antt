@@ -1,5 +1,5 @@
 -- `frexp` meets its contract: a normal number keeps its sign and its fraction, and its field becomes that of one half. Assumes nothing.
-use mathlib.Core.Path.{_≡_, refl, sym, ap, _∙_}
+use mathlib.Core.Path.{_≡_, _∙_}
 use mathlib.Core.Logic.{⊎-elim}
 use Prim.Native.Nat.{ℕ, _+_, _-_, _*_, _%_, _^_, _<_}
 use native.Mathlib.Omega.{arith}
@@ -7,9 +7,9 @@ use lib.Pow.{pow-pos}
 use borrow.Author.Tests.{ltb-true, ltb-false}
 use mir.Syntax.{w64}
 use mir.Val.{ofZ, toZ}
-use Rattle.float_format.specs.Format.{Format, signBit, exponentField, topField}
+use Rattle.float_format.specs.Format.{Format, signBit, exponentField}
 use Rattle.float_format.specs.Width.{format}
-use Rattle.float_format.proofs.Sizes.{Sizes, sizes, fields-apart, field-le}
+use Rattle.float_format.proofs.Sizes.{Sizes, sizes, fields-apart}
 use Rattle.scaling.proofs.Fractions.{Halved, halved, digits-short}
 use borrow.Author.Needs.{needs}
 use Rattle.scaling.proofs.frexp.Statement.{statement}

@@ -1,5 +1,4 @@
 -- `doubles_of` meets its contract. Assumes nothing.
-use mathlib.Core.Path.{_≡_, ap, _∙_}
 use borrow.Author.Needs.{needs}
 use Rattle.evaluation.proofs.bounds.doubles_of.Statement.{statement}
 use Rattle.evaluation.proofs.bounds.doubles_of.Tie as tie

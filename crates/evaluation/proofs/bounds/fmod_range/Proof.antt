@@ -1,5 +1,5 @@
 -- `fmod_range` meets its contract. Assumes nothing.
-use mathlib.Core.Path.{_≡_, sym, _∙_}
+use mathlib.Core.Path.{sym, _∙_}
 use Rattle.evaluation.specs.Range.{doubles}
 use Rattle.evaluation.proofs.Ends.{divided-refused, divided}
 use borrow.Author.Needs.{needs}

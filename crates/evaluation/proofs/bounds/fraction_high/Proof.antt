@@ -1,8 +1,7 @@
 -- `fraction_high` meets its contract. Assumes nothing.
 use mathlib.Core.Path.{_≡_, sym, _∙_}
 use mathlib.Core.Bool.{true, false}
-use Rattle.recipe.specs.Text.{doubleAbove}
-use Rattle.evaluation.specs.Range.{isPositive, plusOne}
+use Rattle.evaluation.specs.Range.{isPositive}
 use borrow.Author.Needs.{needs}
 use Rattle.evaluation.proofs.bounds.fraction_high.Statement.{statement}
 use Rattle.evaluation.proofs.bounds.fraction_high.Tie as tie

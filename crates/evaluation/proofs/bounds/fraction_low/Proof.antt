@@ -1,8 +1,7 @@
 -- `fraction_low` meets its contract. Assumes nothing.
 use mathlib.Core.Path.{_≡_, sym, _∙_}
 use mathlib.Core.Bool.{true, false}
-use Rattle.recipe.specs.Text.{doubleAbove}
-use Rattle.evaluation.specs.Range.{isNegative, minusOne}
+use Rattle.evaluation.specs.Range.{isNegative}
 use borrow.Author.Needs.{needs}
 use Rattle.evaluation.proofs.bounds.fraction_low.Statement.{statement}
 use Rattle.evaluation.proofs.bounds.fraction_low.Tie as tie

@@ -1,10 +1,7 @@
 -- `ldexp_range` meets its contract. Assumes nothing.
 use mathlib.Core.Path.{_≡_, sym, _∙_}
-use mathlib.Core.Bool.{true, false}
-use lib.IntN.{ℤ}
 use mir.Syntax.{w64}
 use mir.Val.{ofZ, toZ}
-use Rattle.evaluation.specs.Range.{doubles, infiniteEnd}
 use Rattle.evaluation.proofs.Ends.{scaled-refused, ldexp-ranged}
 use borrow.Author.Needs.{needs}
 use Rattle.evaluation.proofs.bounds.ldexp_range.Statement.{statement}

@@ -1,8 +1,6 @@
 -- `fmod_of` meets its contract. Assumes nothing.
-use mathlib.Core.Path.{_≡_, refl, ap, _∙_}
-use mir.Syntax.{w64}
-use mir.Val.{ofZ, toZ}
-use Rattle.evaluation.specs.Value.{real, whole}
+use mathlib.Core.Path.{ap}
+use Rattle.evaluation.specs.Value.{real}
 use Rattle.evaluation.proofs.Outcomes.{accepted, turned-down}
 use borrow.Author.Needs.{needs}
 use Rattle.evaluation.proofs.step.fmod_of.Statement.{statement}

@@ -1,8 +1,8 @@
 -- `lround_of` meets its contract. Assumes nothing.
-use mathlib.Core.Path.{_≡_, refl, ap, _∙_}
+use mathlib.Core.Path.{_≡_, ap, _∙_}
 use mir.Syntax.{w64}
 use mir.Val.{ofZ, toZ}
-use Rattle.evaluation.specs.Value.{real, whole}
+use Rattle.evaluation.specs.Value.{whole}
 use Rattle.evaluation.proofs.Outcomes.{accepted, turned-down}
 use borrow.Author.Needs.{needs}
 use Rattle.evaluation.proofs.step.lround_of.Statement.{statement}

@@ -1,11 +1,10 @@
 -- `sum_of` meets its contract. Assumes nothing.
 use mathlib.Core.Path.{_≡_, sym, ap, _∙_}
-use mathlib.Core.Bool.{Bool, true, false, cond}
+use mathlib.Core.Bool.{Bool, true, cond}
 use lib.IntN.{ℤ, _+ℤ_}
 use mir.Syntax.{w64}
-use mir.Val.{ofZ, toZ}
 use mir.ValLaws.{toZ-ofZ}
-use Rattle.evaluation.specs.Value.{Outcome, whole, done, refused, fitsWord}
+use Rattle.evaluation.specs.Value.{whole, done, refused, fitsWord}
 use Rattle.evaluation.proofs.Sums.{sum-fits, sum-is}
 use borrow.Author.Needs.{needs}
 use Rattle.evaluation.proofs.step.sum_of.Statement.{statement}

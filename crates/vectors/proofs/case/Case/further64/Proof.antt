@@ -1,6 +1,5 @@
 -- `Case::further64` meets its contract, an arm at a time: what the function ensures, at the arm's number. Assumes nothing.
 use mathlib.Core.Path.{_≡_, refl, ap, _∙_}
-use Prim.Native.Nat.{_%_, _^_}
 use mir.Syntax.{w64}
 use mir.Val.{ofZ, toZ}
 use Rattle.float_format.specs.Format.{binary64}
