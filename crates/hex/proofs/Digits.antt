@@ -49,6 +49,15 @@ module _ (b : ℕ) (h : b < 256) where
         (by-test b 97 (ltb b 97) refl))
         (by-test b 48 (ltb b 48) refl)
 
+-- what is written for a digit is read back
+pub digit-glyph : (d : ℕ) → d < 16 → digitOf (glyphOf d) ≡ d
+unfolding digitOf
+digit-glyph d h =
+    ⊎-elim
+    (λ (l : d < 10). simp (lt-ltb d 10 l, le-ltb (48 + d) 48 (omega arith), le-leb (48 + d) 57 (omega arith)) (omega arith))
+    (λ (g : 10 ≤ d). simp (le-ltb d 10 g, le-ltb (87 + d) 48 (omega arith), lt-leb (87 + d) 57 (omega arith), le-ltb (87 + d) 97 (omega arith), le-leb (87 + d) 102 (omega arith)) (omega arith))
+    (by-test d 10 (ltb d 10) refl)
+
 -- ---- reading
 
 pub bad-suc : (s : List ℕ) (at n a : ℕ) → 15 < digitOf (getD s at 0) → fieldOf s at (suc n) a ≡ Malformed
