@@ -121,11 +121,7 @@ impl Binary64 {
     pub fn rank(x: u64) -> u64
         ensures { λ r. ⌜ r ≡ rank binary64 x ⌝ }
     {
-        if x < Self::SIGN {
-            Self::SIGN + x
-        } else {
-            Self::SIGN - (x - Self::SIGN)
-        }
+        width::rank(Self::FRACTION_BITS, Self::EXPONENT_BITS, x)
     }
 }
 
@@ -199,10 +195,6 @@ impl Binary32 {
     pub fn rank(x: u32) -> u32
         ensures { λ r. ⌜ r ≡ rank binary32 x ⌝ }
     {
-        if x < Self::SIGN {
-            Self::SIGN + x
-        } else {
-            Self::SIGN - (x - Self::SIGN)
-        }
+        width::rank(Self::FRACTION_BITS, Self::EXPONENT_BITS, x as u64) as u32
     }
 }

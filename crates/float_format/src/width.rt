@@ -3,7 +3,7 @@
 ghost use mathlib.Core.Path.{_≡_};
 ghost use Prim.Native.Nat.{_-_, _*_, _%_, _^_, _<_, _≤_};
 ghost use Rattle.float_format.specs.Format.{signBit, topField, infinity, unsigned, exponentField, quieted};
-ghost use Rattle.float_format.specs.Number.{encode, bias};
+ghost use Rattle.float_format.specs.Number.{encode, bias, rank};
 ghost use Rattle.float_format.specs.Width.{format, InWord};
 
 pub fn power(k: u64) -> u64
@@ -78,6 +78,19 @@ pub fn quiet(fraction: u64, exponent: u64, x: u64) -> u64
     ensures { λ r. ⌜ (r ≡ quieted (format fraction exponent) x) × (r < 2 * signBit (format fraction exponent)) ⌝ }
 {
     x | power(fraction - 1)
+}
+
+// A whole number by which patterns compare as their numbers do, the two zeros equal.
+pub fn rank(fraction: u64, exponent: u64, x: u64) -> u64
+    requires { ⌜ InWord (format fraction exponent) × (x < 2 * signBit (format fraction exponent)) ⌝ }
+    ensures { λ r. ⌜ (r ≡ rank (format fraction exponent) x) × (r < 2 * signBit (format fraction exponent)) ⌝ }
+{
+    let sign = sign_bit(fraction, exponent);
+    if x < sign {
+        sign + x
+    } else {
+        sign - (x - sign)
+    }
 }
 
 // How far the leading one of m stands below the place of a normal number's: the one way that a number comes to its leading one.

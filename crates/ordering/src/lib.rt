@@ -7,12 +7,13 @@
 ghost use mathlib.Core.Path.{_≡_};
 ghost use Prim.Native.Nat.{_*_, _<_};
 ghost use Rattle.float_format.specs.Format.{signBit};
-ghost use Rattle.float_format.specs.Number.{rank, below};
+ghost use Rattle.float_format.specs.Number.{below};
 ghost use Rattle.float_format.specs.Width.{format, InWord};
 ghost use Rattle.ordering.specs.Ordering.{chosen, fmin, fmax, nextafter};
 ghost use Rattle.ordering.specs.Shape.{Operands, Nonzero, moved, refusal};
 use float_format::width::infinity_of;
 use float_format::width::quiet;
+use float_format::width::rank;
 use float_format::width::rest;
 use float_format::width::sign_bit;
 use float_format::width::signed_zero;
@@ -22,25 +23,12 @@ pub mod binary64;
 
 // ---- the order
 
-// A whole number by which patterns compare as their numbers do, the two zeros equal.
-fn rank_of(fraction: u64, exponent: u64, x: u64) -> u64
-    requires { ⌜ InWord (format fraction exponent) × (x < 2 * signBit (format fraction exponent)) ⌝ }
-    ensures { λ r. ⌜ r ≡ rank (format fraction exponent) x ⌝ }
-{
-    let sign = sign_bit(fraction, exponent);
-    if x < sign {
-        sign + x
-    } else {
-        sign - (x - sign)
-    }
-}
-
 // Whether x's number is below y's.
 fn less(fraction: u64, exponent: u64, x: u64, y: u64) -> bool
     requires { ⌜ Operands (format fraction exponent) x y ⌝ }
     ensures { λ r. ⌜ r ≡ below (format fraction exponent) x y ⌝ }
 {
-    rank_of(fraction, exponent, x) < rank_of(fraction, exponent, y)
+    rank(fraction, exponent, x) < rank(fraction, exponent, y)
 }
 
 // ---- fmin, fmax
@@ -111,8 +99,8 @@ fn nextafter(fraction: u64, exponent: u64, x: u64, y: u64) -> u64
     if rest(fraction, exponent, y) > top {
         return quiet(fraction, exponent, y);
     }
-    let from = rank_of(fraction, exponent, x);
-    let to = rank_of(fraction, exponent, y);
+    let from = rank(fraction, exponent, x);
+    let to = rank(fraction, exponent, y);
     if from == to {
         return y;
     }

@@ -6,16 +6,16 @@ use borrow.Author.Needs.{needs}
 use Rattle.ordering.proofs.less.Statement.{statement}
 use Rattle.ordering.proofs.less.Tie as tie
 
-rank-of-requires : tie.Need-rank-of-requires
-rank-of-requires c κs = search needs
+rank-requires : tie.Need-rank-requires
+rank-requires c κs = search needs
 
-rank-of-requires-2 : tie.Need-rank-of-requires-2
-rank-of-requires-2 c κs = search needs
+rank-requires-2 : tie.Need-rank-requires-2
+rank-requires-2 c κs = search needs
 
 returns : tie.Need-returns
 returns c =
     let a = c .before .before .args in
-    rw (c .before .rank-of .ensures, c .rank-of2 .ensures) (sym (below-is (format (a .fraction) (a .exponent)) (a .x) (a .y)))
+    rw (c .before .rank .ensures .0, c .rank2 .ensures .0) (sym (below-is (format (a .fraction) (a .exponent)) (a .x) (a .y)))
 
 pub less-spec : {M : Type 1} → statement M
-less-spec = tie.close (tie.spec rank-of-requires rank-of-requires-2 returns)
+less-spec = tie.close (tie.spec rank-requires rank-requires-2 returns)

@@ -29,7 +29,7 @@ number-y c = number-where _ _ (omega (arith, c .if2 .left, c .before .rest2 .ens
 
 -- past the third they are not the same number
 differ : (c : tie.Else3) → same (at (c .before .before .before .before .before .before .before .before)) (c .before .before .before .before .before .before .before .before .args .x) (c .before .before .before .before .before .before .before .before .args .y) ≡ false
-differ c = same-is _ _ _ ∙ rw (← c .before .before .rank-of .ensures, ← c .before .rank-of2 .ensures) (ne-eqb _ _ (c .if3 .left))
+differ c = same-is _ _ _ ∙ rw (← c .before .before .rank .ensures .0, ← c .before .rank2 .ensures .0) (ne-eqb _ _ (c .if3 .left))
 
 infinity-of-requires : tie.Need-infinity-of-requires
 infinity-of-requires c κs = search needs
@@ -58,16 +58,16 @@ returns-2 c =
     let y : isNan (at s) (s .args .y) ≡ true = nan-where _ _ (omega (arith, c .before .if2 .taken, c .before .before .rest2 .ensures, c .before .before .before .before .before .infinity-of .ensures)) in
     (c .quiet2 .ensures .0 ∙ sym (at-second-nan (at s) (s .args .x) (s .args .y) (number-where _ _ (number-x (c .before .before .before))) y), c .quiet2 .ensures .1)
 
-rank-of-requires : tie.Need-rank-of-requires
-rank-of-requires c κs = search needs
+rank-requires : tie.Need-rank-requires
+rank-requires c κs = search needs
 
-rank-of-requires-2 : tie.Need-rank-of-requires-2
-rank-of-requires-2 c κs = search needs
+rank-requires-2 : tie.Need-rank-requires-2
+rank-requires-2 c κs = search needs
 
 returns-3 : tie.Need-returns-3
 returns-3 c =
     let s = c .before .before .before .before .before .before .before .before in
-    let e : same (at s) (s .args .x) (s .args .y) ≡ true = same-is _ _ _ ∙ rw (← c .before .before .rank-of .ensures, ← c .before .rank-of2 .ensures) (eq-eqb _ _ (c .if3 .taken)) in
+    let e : same (at s) (s .args .x) (s .args .y) ≡ true = same-is _ _ _ ∙ rw (← c .before .before .rank .ensures .0, ← c .before .rank2 .ensures .0) (eq-eqb _ _ (c .if3 .taken)) in
     (sym (at-same (at s) (s .args .x) (s .args .y) (number-where _ _ (number-x (c .before .before .before .before .before))) (number-y (c .before .before .before)) e), s .pre .second)
 
 signed-zero-requires : tie.Need-signed-zero-requires
@@ -89,7 +89,7 @@ returns-5 : tie.Need-returns-5
 returns-5 c =
     let s = c .before .before .before .before .before .before .before .before .before .before in
     let some : 0 < unsigned (at s) (s .args .x) = omega (arith, c .before .if4 .left, c .before .before .before .before .before .before .before .before .rest .ensures) in
-    let t : ltb (c .before .before .before .before .rank-of .result) (c .before .before .before .rank-of2 .result) ≡ below (at s) (s .args .x) (s .args .y) = rw (c .before .before .before .before .rank-of .ensures, c .before .before .before .rank-of2 .ensures) (sym (below-is (at s) (s .args .x) (s .args .y))) in
+    let t : ltb (c .before .before .before .before .rank .result) (c .before .before .before .rank2 .result) ≡ below (at s) (s .args .x) (s .args .y) = rw (c .before .before .before .before .rank .ensures .0, c .before .before .before .rank2 .ensures .0) (sym (below-is (at s) (s .args .x) (s .args .y))) in
     stepped (at s) (s .args .x) (s .args .y) (number-where _ _ (number-x (c .before .before .before .before .before .before .before))) (number-y (c .before .before .before .before .before)) (differ (c .before .before))
     _ (c .step .result) (s .pre .word .valid) some (number-x (c .before .before .before .before .before .before .before)) t (c .step .ensures)
 
@@ -104,8 +104,8 @@ nextafter-spec =
     rest-requires-2
     quiet-requires-2
     returns-2
-    rank-of-requires
-    rank-of-requires-2
+    rank-requires
+    rank-requires-2
     returns-3
     signed-zero-requires
     add-result

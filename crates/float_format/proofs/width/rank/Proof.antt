@@ -1,14 +1,14 @@
--- `rank_of` meets its contract: one comparison tells the sign, and the rest is what stands past its weight. Assumes nothing.
+-- `rank` meets its contract: one comparison tells the sign, and the rest is what stands past its weight. Assumes nothing.
 use mathlib.Core.Bool.{true, false}
 use Prim.Native.Nat.{_<_, _≤_}
 use native.Mathlib.Omega.{arith}
 use Rattle.float_format.specs.Format.{Format, signBit}
 use Rattle.float_format.specs.Width.{format}
 use Rattle.float_format.proofs.Order.{rank-at}
 use Rattle.float_format.proofs.Sizes.{sizes, plus, minus}
 use borrow.Author.Needs.{needs}
-use Rattle.ordering.proofs.rank_of.Statement.{statement}
-use Rattle.ordering.proofs.rank_of.Tie as tie
+use Rattle.float_format.proofs.width.rank.Statement.{statement}
+use Rattle.float_format.proofs.width.rank.Tie as tie
 
 -- the format
 abbrev at : tie.Start → Format
@@ -37,5 +37,5 @@ returns-2 c =
     let s = minus (at (c .before .before)) x (c .before .before .pre .1) g in
     omega (arith, c .before .sign-bit .ensures, s .1, rank-at (at (c .before .before)) x true (s .0))
 
-pub rank-of-spec : {M : Type 1} → statement M
-rank-of-spec = tie.close (tie.spec sign-bit-requires add-result sub-result returns returns-2)
+pub rank-spec : {M : Type 1} → statement M
+rank-spec = tie.close (tie.spec sign-bit-requires add-result sub-result returns returns-2)
