@@ -11,7 +11,7 @@ use lib.Arith.{digits-mod}
 use lib.Bits.{bitXor, xor-block, xor-zero-r, xor-zero-l, xor-self}
 use lib.Pow.{pow-pos, pow-add, suc-ones}
 use borrow.Author.Tests.{eq-eqb, ne-eqb, lt-ltb, le-ltb, le-leb, lt-leb}
-use Rattle.float_format.specs.Format.{Format, signBit, topField, infinity, negative, unsigned, signed, negated, isNan, isInfinite, isZero, isSubnormal, classify}
+use Rattle.float_format.specs.Format.{Format, signBit, topField, infinity, negative, unsigned, signed, negated, isNan, isInfinite, isZero, isSubnormal, classify, quieted, propagated}
 use Rattle.float_format.specs.declared.Class.the-variants.{Nan, Infinite, Zero, Subnormal, Normal}
 use Rattle.float_format.proofs.Units.{lt-or-ge}
 
@@ -125,6 +125,15 @@ module _ (f : Format) (x : ℕ) where
   pub infinite-is : isInfinite f x ≡ eqb (unsigned f x) (infinity f)
   unfolding isInfinite
   infinite-is = infinite-fields (topField f) (2 ^ f .fraction) (unsigned f x) (pow-pos (f .fraction)) fits
+
+  -- a NaN is handed on quieted, any other pattern as it stands
+  pub propagated-nan : infinity f < unsigned f x → propagated f x ≡ quieted f x
+  unfolding propagated
+  propagated-nan l = simp (nan-is, lt-ltb (infinity f) (unsigned f x) l)
+
+  pub propagated-number : unsigned f x ≤ infinity f → propagated f x ≡ x
+  unfolding propagated
+  propagated-number h = simp (nan-is, le-ltb (infinity f) (unsigned f x) h)
 
   -- a field of 0, where the rest is the fraction
   low-is : unsigned f x < 2 ^ f .fraction → (isZero f x ≡ eqb (unsigned f x) 0) × (isSubnormal f x ≡ not (eqb (unsigned f x) 0))

@@ -81,6 +81,9 @@ module _ (f : Format) (x : ℕ) (h : exponentField f x ≡ topField f) where
       let m : unsigned f x % 2 ^ f .fraction ≡ x % 2 ^ f .fraction = mod-mod-pow x (f .exponent) (f .fraction) in
       omega (arith, div-add-mod' (unsigned f x) (2 ^ f .fraction), ap (λ (n : ℕ). n * 2 ^ f .fraction) h)
 
+  pub from-infinity : infinity f ≤ unsigned f x
+  from-infinity = omega (arith, split)
+
   pub rest-infinite : x % 2 ^ f .fraction ≡ 0 → unsigned f x ≡ infinity f
   rest-infinite z = omega (arith, split)
 

@@ -105,3 +105,7 @@ classify f x =
 -- "quieted": the same pattern with the top fraction bit set
 unfoldable pub quieted : Format → ℕ → ℕ
 quieted f x = bitOr x (quietBit f)
+
+-- what a function of one number hands on of a pattern that is not finite: a NaN quieted, an infinity unchanged
+unfoldable pub propagated : Format → ℕ → ℕ
+propagated f x = cond (isNan f x) (quieted f x) x

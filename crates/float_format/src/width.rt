@@ -2,7 +2,7 @@
 // numbers, so that the compiler folds all of this. Not entry points: each asks that a pattern fits a word.
 ghost use mathlib.Core.Path.{_≡_};
 ghost use Prim.Native.Nat.{_-_, _*_, _%_, _^_, _<_, _≤_};
-ghost use Rattle.float_format.specs.Format.{signBit, topField, infinity, unsigned, exponentField, quieted};
+ghost use Rattle.float_format.specs.Format.{signBit, topField, infinity, unsigned, exponentField, quieted, propagated};
 ghost use Rattle.float_format.specs.Number.{encode, bias, rank};
 ghost use Rattle.float_format.specs.Width.{format, InWord};
 
@@ -78,6 +78,17 @@ pub fn quiet(fraction: u64, exponent: u64, x: u64) -> u64
     ensures { λ r. ⌜ (r ≡ quieted (format fraction exponent) x) × (r < 2 * signBit (format fraction exponent)) ⌝ }
 {
     x | power(fraction - 1)
+}
+
+// A NaN quieted, or an infinity unchanged.
+pub fn not_finite(fraction: u64, exponent: u64, x: u64) -> u64
+    requires { ⌜ InWord (format fraction exponent) × (x < 2 * signBit (format fraction exponent)) × (exponentField (format fraction exponent) x ≡ topField (format fraction exponent)) ⌝ }
+    ensures { λ r. ⌜ (r ≡ propagated (format fraction exponent) x) × (r < 2 * signBit (format fraction exponent)) ⌝ }
+{
+    if x % power(fraction) == 0 {
+        return x;
+    }
+    quiet(fraction, exponent, x)
 }
 
 // A whole number by which patterns compare as their numbers do, the two zeros equal.

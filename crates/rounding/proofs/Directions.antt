@@ -4,20 +4,21 @@ use mathlib.Core.Path.{_≡_, refl, sym, ap, _∙_}
 use mathlib.Core.Bool.{Bool, true, false, _&&_, cond}
 use mathlib.Core.Logic.{⊎-elim}
 use Prim.Native.Nat.{ℕ, zero, suc, _+_, _-_, _*_, _/_, _%_, _^_, _≤_, _<_}
-use native.Mathlib.Nat.{mod-lt, pow-suc, div-add-mod'}
+use native.Mathlib.Nat.{mod-lt, pow-suc, div-add-mod', eq-or-lt-of-le}
 use native.Mathlib.Omega.{arith}
 use lib.Arith.{digits-div}
 use lib.Dec.{leb, ltb, eqb}
 use lib.Pow.{pow-pos, pow-add}
 use borrow.Author.Tests.{lt-ltb, le-ltb, le-leb, lt-leb, ne-eqb}
-use Rattle.float_format.specs.Format.{Format, signBit, topField, infinity, negative, unsigned, signed}
+use Rattle.float_format.specs.Format.{Format, signBit, topField, infinity, exponentField, negative, unsigned, signed, propagated}
 use Rattle.float_format.specs.Number.{bias}
 use Rattle.float_format.specs.Rounding.{goesAway, integral}
 use Rattle.float_format.specs.declared.Direction.{Direction}
 use Rattle.float_format.specs.declared.Direction.the-variants.{Down, Up, TowardZero, HalfAway, HalfEven}
 use Rattle.float_format.proofs.Units.{lt-or-ge}
-use Rattle.float_format.proofs.Sizes.{minus, plus, zero-is, Sizes, sizes, rest-below, rest-from, field-from}
-use Rattle.float_format.proofs.Integral.{integral-lt}
+use Rattle.float_format.proofs.Sizes.{minus, plus, zero-is, Sizes, sizes, rest-below, rest-from, field-from, from-infinity}
+use Rattle.float_format.proofs.Patterns.{propagated-nan, propagated-number}
+use Rattle.float_format.proofs.Integral.{integral-nan, integral-infinite, integral-lt}
 use Rattle.float_format.specs.Width.{InWord, Finite}
 use Rattle.rounding.specs.Shape.{fractionShift}
 use Rattle.rounding.proofs.Shifts.{shift-is, unit-le, unit-from-one}
@@ -27,6 +28,14 @@ use Rattle.rounding.proofs.Carry.{cut-is, small-is, add-down, add-up, a
 pub answered : (f : Format) (d : Direction) (x r : ℕ) → InWord f → x < 2 * signBit f → r ≡ integral f d x
     → (r ≡ integral f d x) × (r < 2 * signBit f)
 answered f d x r w p e = (e, rw e (integral-lt f d x (w .valid) p))
+
+-- what is not finite is answered alike in every direction
+pub not-finite-is : (f : Format) (d : Direction) (x r : ℕ) → exponentField f x ≡ topField f → r ≡ propagated f x → r ≡ integral f d x
+not-finite-is f d x r h e =
+    ⊎-elim
+    (λ i. e ∙ propagated-number f x (omega arith) ∙ sym (integral-infinite f d x (sym i)))
+    (λ l. e ∙ propagated-nan f x l ∙ sym (integral-nan f d x l))
+    (eq-or-lt-of-le (from-infinity f x h))
 
 -- ---- from one on
 

@@ -9,6 +9,7 @@ ghost use Rattle.float_format.specs.Width.{Finite};
 use super::Integer;
 use float_format::Binary32;
 use float_format::Direction;
+use float_format::width::not_finite;
 
 // The greatest integer not above x.
 pub fn floor(x: u32) -> u32
@@ -72,7 +73,7 @@ pub fn round(x: u32) -> u32
     if doubled < 0xff00_0000 {
         return round_finite(x, doubled >> 24);
     }
-    super::not_finite(Binary32::FRACTION_BITS, Binary32::EXPONENT_BITS, x as u64) as u32
+    not_finite(Binary32::FRACTION_BITS, Binary32::EXPONENT_BITS, x as u64) as u32
 }
 
 // The integer nearest to x, halves to even.

@@ -6,10 +6,9 @@
 // branch that is taken now and then.
 ghost use mathlib.Core.Path.{_≡_};
 ghost use Prim.Native.Nat.{_+_, _-_, _*_, _/_, _%_, _^_, _<_, _≤_};
-ghost use Rattle.float_format.specs.Format.{signBit, topField, exponentField};
+ghost use Rattle.float_format.specs.Format.{signBit, exponentField};
 ghost use Rattle.float_format.specs.Number.{bias};
 ghost use Rattle.float_format.specs.Rounding.{wholePart, integral, withSign, lroundRefusal, lroundValue};
-ghost use Rattle.float_format.specs.declared.Direction.{Direction};
 ghost use Rattle.float_format.specs.declared.Direction.the-variants.{Down, Up, TowardZero, HalfAway, HalfEven};
 ghost use Rattle.rounding.specs.Answer.{refusalOf, valueOf};
 ghost use Rattle.float_format.specs.Width.{format, InWord, Finite};
@@ -17,6 +16,7 @@ ghost use Rattle.rounding.specs.Shape.{Reaches63, FromOne, BelowOne, fra
 use float_format::Direction;
 use float_format::width::bias_of;
 use float_format::width::field;
+use float_format::width::not_finite;
 use float_format::width::one;
 use float_format::width::power;
 use float_format::width::sign_bit;
@@ -78,20 +78,6 @@ fn cut(y: u64, unit: u64) -> u64
     ensures { λ r. ⌜ r ≡ y - y % unit ⌝ }
 {
     y - y % unit
-}
-
-// ---- what all directions share
-
-// A NaN or an infinity: quieted, or unchanged.
-fn not_finite(fraction: u64, exponent: u64, x: u64) -> u64
-    requires { ⌜ InWord (format fraction exponent) × (exponentField (format fraction exponent) x ≡ topField (format fraction exponent)) ⌝ }
-    ensures { λ r. ⌜ ((d : Direction) → r ≡ integral (format fraction exponent) d x) ⌝ }
-{
-    if x % power(fraction) == 0 {
-        x
-    } else {
-        x | power(fraction - 1)
-    }
 }
 
 // ---- floor

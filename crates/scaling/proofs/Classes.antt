@@ -11,11 +11,11 @@ use lib.IntN.{ℤ, pos, _-ℤ_}
 use lib.Ieee.{size}
 use lib.Pow.{pow-pos}
 use borrow.Author.Tests.{lt-ltb, le-ltb, eq-eqb, ne-eqb}
-use Rattle.float_format.specs.Format.{Format, Valid, signBit, topField, infinity, exponentField, negative, unsigned, signed, isNan, isInfinite, isZero, quieted}
+use Rattle.float_format.specs.Format.{Format, Valid, signBit, infinity, negative, unsigned, signed, isNan, isInfinite, isZero, propagated}
 use Rattle.float_format.specs.Number.{magnitude, encode, bias, one}
 use Rattle.float_format.proofs.Units.{lt-or-ge}
 use Rattle.float_format.proofs.Patterns.{nan-is, infinite-is}
-use Rattle.float_format.proofs.Sizes.{zero-is, rest-from, rest-infinite, rest-nan}
+use Rattle.float_format.proofs.Sizes.{zero-is}
 use Rattle.float_format.proofs.Integral.{room}
 use Rattle.scaling.specs.Scaling.{frexpFraction, frexpExponent, scaled, ldexp, ldexpRefusal}
 
@@ -52,33 +52,23 @@ module _ (f : Format) (x : ℕ) where
   pub no-zero : 0 < unsigned f x → isZero f x ≡ false
   no-zero l = zero-by-rest ∙ ne-eqb (unsigned f x) 0 (omega arith)
 
--- ---- what is not finite, with the largest exponent field
-
-module _ (f : Format) (x : ℕ) (h : exponentField f x ≡ topField f) where
-  pub infinite-kept : x % 2 ^ f .fraction ≡ 0 → x ≡ cond (isNan f x) (quieted f x) x
-  infinite-kept z = sym (ap (λ (t : Bool). cond t (quieted f x) x) (no-nan f x (omega (arith, rest-infinite f x h z))))
-
-  pub nan-quieted : (x % 2 ^ f .fraction ≡ 0 → ⊥) → quieted f x ≡ cond (isNan f x) (quieted f x) x
-  nan-quieted n = sym (ap (λ (t : Bool). cond t (quieted f x) x) (is-nan f x (rest-nan f x h n)))
-
-  pub from-infinity : infinity f ≤ unsigned f x
-  from-infinity = rest-from f x (exponentField f x) (topField f) refl (omega arith)
+-- ---- what is not finite
 
 -- a NaN or an infinity
 either : (f : Format) (x : ℕ) → infinity f ≤ unsigned f x → isNan f x ≡ true ⊎ (isNan f x ≡ false × isInfinite f x ≡ true)
 either f x h =
     ⊎-elim (λ e. inr (no-nan f x (omega arith), is-infinite f x (sym e))) (λ l. inl (is-nan f x l)) (eq-or-lt-of-le h)
 
-module _ (f : Format) (x r : ℕ) (h : infinity f ≤ unsigned f x) (e : r ≡ cond (isNan f x) (quieted f x) x) where
+module _ (f : Format) (x r : ℕ) (h : infinity f ≤ unsigned f x) (e : r ≡ propagated f x) where
   pub frexp-not-finite : (r ≡ frexpFraction f x) × (pos 0 ≡ frexpExponent f x)
-  unfolding frexpFraction frexpExponent
+  unfolding frexpFraction frexpExponent propagated
   frexp-not-finite =
       ⊎-elim (λ (a : isNan f x ≡ true). (e ∙ simp a, simp a))
       (λ (w : isNan f x ≡ false × isInfinite f x ≡ true). (e ∙ simp (w .0, w .1), simp (w .0, w .1)))
       (either f x h)
 
   pub ldexp-not-finite : (n : ℤ) → (r ≡ ldexp f x n) × (0 ≡ ldexpRefusal f x n)
-  unfolding ldexp ldexpRefusal
+  unfolding ldexp ldexpRefusal propagated
   ldexp-not-finite n =
       ⊎-elim (λ (a : isNan f x ≡ true). (e ∙ simp a, simp a))
       (λ (w : isNan f x ≡ false × isInfinite f x ≡ true). (e ∙ simp (w .0, w .1), simp (w .0, w .1)))

@@ -18,7 +18,7 @@ use Rattle.float_format.specs.Format.{Format, Valid, signBit, topField, infinit
 use Rattle.float_format.specs.Number.{magnitude, bias, one, above, under, AtMost}
 use Rattle.float_format.specs.declared.Direction.the-variants.{HalfEven}
 use Rattle.float_format.proofs.Units.{lt-or-ge, magnitude-at, magnitude-mono, magnitude-mono-le}
-use Rattle.float_format.proofs.Patterns.{negative-signed, unsigned-signed, signed-parts}
+use Rattle.float_format.proofs.Patterns.{negative-signed, unsigned-signed, signed-parts, propagated-nan, propagated-number}
 use Rattle.float_format.proofs.Integral.{Room, room}
 use Rattle.float_format.proofs.Order.{unitsOf, magnitude-zero, infinity-below-sign, above-at, under-at}
 use Rattle.float_format.proofs.Bounds.{distance}
@@ -27,7 +27,7 @@ use Rattle.scaling.specs.Position.{Significand}
 use Rattle.scaling.proofs.Powers.{swap, powers, suc-times, product-pos, cancel-right}
 use Rattle.scaling.proofs.Offsets.{down-pos, powers-order, difference-power}
 use Rattle.scaling.proofs.Nearest.{magnitude-same, NearestPattern, nearest-scale, nearest-units, rounds-nearest, keeps-order, reaches}
-use Rattle.scaling.proofs.Classes.{no-nan, is-nan, frexp-not-finite, frexp-zero, ldexp-not-finite, ldexp-at, ldexp-in, ldexp-out}
+use Rattle.scaling.proofs.Classes.{frexp-not-finite, frexp-zero, ldexp-not-finite, ldexp-at, ldexp-in, ldexp-out}
 use Rattle.scaling.proofs.Significands.{Found, found}
 use Rattle.scaling.proofs.Fractions.{fraction-is, whole-units, exponent-is}
 use Rattle.scaling.proofs.Places.{zero-answer, scaled-nearest, scaled-exact}
@@ -38,12 +38,12 @@ use Rattle.scaling.proofs.Monotone.{Keeps, keeps-at-most}
 module _ (f : Format) (x : ℕ) where
   pub frexp-of-nan : infinity f < unsigned f x → (frexpFraction f x ≡ quieted f x) × (frexpExponent f x ≡ pos 0)
   frexp-of-nan l =
-      let r : (quieted f x ≡ frexpFraction f x) × (pos 0 ≡ frexpExponent f x) = frexp-not-finite f x (quieted f x) (omega arith) (sym (ap (λ (t : Bool). cond t (quieted f x) x) (is-nan f x l))) in
+      let r : (quieted f x ≡ frexpFraction f x) × (pos 0 ≡ frexpExponent f x) = frexp-not-finite f x (quieted f x) (omega arith) (sym (propagated-nan f x l)) in
       (sym (r .0), sym (r .1))
 
   pub frexp-of-infinity : unsigned f x ≡ infinity f → (frexpFraction f x ≡ x) × (frexpExponent f x ≡ pos 0)
   frexp-of-infinity e =
-      let r : (x ≡ frexpFraction f x) × (pos 0 ≡ frexpExponent f x) = frexp-not-finite f x x (omega arith) (sym (ap (λ (t : Bool). cond t (quieted f x) x) (no-nan f x (omega arith)))) in
+      let r : (x ≡ frexpFraction f x) × (pos 0 ≡ frexpExponent f x) = frexp-not-finite f x x (omega arith) (sym (propagated-number f x (omega arith))) in
       (sym (r .0), sym (r .1))
 
   pub frexp-of-zero : Valid f → unsigned f x ≡ 0 → (frexpFraction f x ≡ x) × (frexpExponent f x ≡ pos 0)
@@ -116,12 +116,12 @@ module _ (f : Format) (x : ℕ) (v : Valid f) (some : 0 < unsigned f x) (h : uns
 module _ (f : Format) (x : ℕ) (n : ℤ) where
   pub ldexp-of-nan : infinity f < unsigned f x → (ldexp f x n ≡ quieted f x) × (ldexpRefusal f x n ≡ 0)
   ldexp-of-nan l =
-      let r : (quieted f x ≡ ldexp f x n) × (0 ≡ ldexpRefusal f x n) = ldexp-not-finite f x (quieted f x) (omega arith) (sym (ap (λ (t : Bool). cond t (quieted f x) x) (is-nan f x l))) n in
+      let r : (quieted f x ≡ ldexp f x n) × (0 ≡ ldexpRefusal f x n) = ldexp-not-finite f x (quieted f x) (omega arith) (sym (propagated-nan f x l)) n in
       (sym (r .0), sym (r .1))
 
   pub ldexp-of-infinity : unsigned f x ≡ infinity f → (ldexp f x n ≡ x) × (ldexpRefusal f x n ≡ 0)
   ldexp-of-infinity e =
-      let r : (x ≡ ldexp f x n) × (0 ≡ ldexpRefusal f x n) = ldexp-not-finite f x x (omega arith) (sym (ap (λ (t : Bool). cond t (quieted f x) x) (no-nan f x (omega arith)))) n in
+      let r : (x ≡ ldexp f x n) × (0 ≡ ldexpRefusal f x n) = ldexp-not-finite f x x (omega arith) (sym (propagated-number f x (omega arith))) n in
       (sym (r .0), sym (r .1))
 
   pub ldexp-of-zero : Valid f → x < 2 * signBit f → unsigned f x ≡ 0 → (ldexp f x n ≡ x) × (ldexpRefusal f x n ≡ 0)

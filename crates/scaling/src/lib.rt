@@ -4,10 +4,10 @@
 // over as numbers, so that the compiler folds them. A normal number with a normal answer comes first: there only the exponent field
 // changes. All the rest goes to functions of its own.
 ghost use mathlib.Core.Path.{_≡_};
-ghost use mathlib.Core.Bool.{false, cond};
+ghost use mathlib.Core.Bool.{false};
 ghost use Prim.Native.Nat.{_+_, _-_, _*_, _^_, _<_, _≤_};
 ghost use lib.IntN.{ℤ, pos, _-ℤ_};
-ghost use Rattle.float_format.specs.Format.{signBit, topField, exponentField, isNan, quieted};
+ghost use Rattle.float_format.specs.Format.{signBit, topField, exponentField};
 ghost use Rattle.float_format.specs.Number.{bias};
 ghost use Rattle.float_format.specs.Rounding.{parts};
 ghost use Rattle.float_format.specs.Width.{format, InWord};
@@ -19,8 +19,8 @@ use float_format::width::bias_of;
 use float_format::width::field;
 use float_format::width::infinity_of;
 use float_format::width::leading_shift;
+use float_format::width::not_finite;
 use float_format::width::power;
-use float_format::width::quiet;
 use float_format::width::rest;
 use float_format::width::signed_zero;
 use float_format::width::top_field;
@@ -39,19 +39,6 @@ pub struct Frexp64 {
 pub struct Frexp32 {
     pub fraction: u32,
     pub exponent: i64,
-}
-
-// ---- what both share
-
-// A NaN or an infinity: quieted, or unchanged.
-fn not_finite(fraction: u64, exponent: u64, x: u64) -> u64
-    requires { ⌜ InWord (format fraction exponent) × (x < 2 * signBit (format fraction exponent)) × (exponentField (format fraction exponent) x ≡ topField (format fraction exponent)) ⌝ }
-    ensures { λ r. ⌜ (r ≡ cond (isNan (format fraction exponent) x) (quieted (format fraction exponent) x) x) × (r < 2 * signBit (format fraction exponent)) ⌝ }
-{
-    if x % power(fraction) == 0 {
-        return x;
-    }
-    quiet(fraction, exponent, x)
 }
 
 // ---- frexp

@@ -1,10 +1,10 @@
 -- `rounded` meets its contract: what is not finite is the same in every direction, and of the other two answers the one is picked that is
 -- right on its side of one. Assumes nothing.
-use mathlib.Core.Path.{sym, _∙_}
+use mathlib.Core.Path.{_≡_, sym, _∙_}
 use native.Mathlib.Omega.{arith}
-use Rattle.float_format.specs.Format.{Format}
+use Rattle.float_format.specs.Format.{Format, topField, exponentField}
 use Rattle.float_format.specs.Width.{format, Finite}
-use Rattle.rounding.proofs.Directions.{answered}
+use Rattle.rounding.proofs.Directions.{answered, not-finite-is}
 use borrow.Author.Needs.{needs}
 use Rattle.rounding.proofs.rounded.Statement.{statement}
 use Rattle.rounding.proofs.rounded.Tie as tie
@@ -13,7 +13,11 @@ use Rattle.rounding.proofs.rounded.Tie as tie
 abbrev at : tie.Start → Format
 at s = format (s .args .fraction) (s .args .exponent)
 
--- past the test, the field is not the largest
+-- the field is the largest
+top : (c : tie.Then1) → exponentField (at (c .before .before .before)) (c .before .before .before .args .x) ≡ topField (at (c .before .before .before))
+top c = sym (c .before .before .field .ensures .0) ∙ c .if1 .taken ∙ c .before .top-field .ensures
+
+-- past the test, it is not
 finite : (c : tie.Else1) → Finite (at (c .before .before .before)) (c .before .before .before .args .x) (c .before .before .field .result)
 finite c =
     record {
@@ -30,10 +34,12 @@ top-field-requires : tie.Need-top-field-requires
 top-field-requires c κs = search needs
 
 not-finite-requires : tie.Need-not-finite-requires
-not-finite-requires c κs = (c .before .before .before .pre .0, sym (c .before .before .field .ensures .0) ∙ c .if1 .taken ∙ c .before .top-field .ensures)
+not-finite-requires c κs = (c .before .before .before .pre .0, c .before .before .before .pre .1, top c)
 
 returns : tie.Need-returns
-returns c = answered (at (c .before .before .before .before)) (c .before .before .before .before .args .direction) (c .before .before .before .before .args .x) _ (c .before .before .before .before .pre .0) (c .before .before .before .before .pre .1) (c .not-finite .ensures (c .before .before .before .before .args .direction))
+returns c =
+    let s = c .before .before .before .before in
+    (not-finite-is (at s) (s .args .direction) (s .args .x) _ (top (c .before)) (c .not-finite .ensures .0), c .not-finite .ensures .1)
 
 from-one-requires : tie.Need-from-one-requires
 from-one-requires c κs = finite c

@@ -4,8 +4,8 @@ use native.Mathlib.Nat.{div-eq-of-lt}
 use native.Mathlib.Omega.{arith}
 use Rattle.float_format.specs.Format.{Format, exponentField, topField}
 use Rattle.float_format.specs.Width.{format}
-use Rattle.float_format.proofs.Sizes.{field-from}
-use Rattle.scaling.proofs.Classes.{from-infinity, frexp-not-finite}
+use Rattle.float_format.proofs.Sizes.{field-from, from-infinity}
+use Rattle.scaling.proofs.Classes.{frexp-not-finite}
 use borrow.Author.Needs.{needs}
 use Rattle.scaling.proofs.frexp_rare.Statement.{statement}
 use Rattle.scaling.proofs.frexp_rare.Tie as tie

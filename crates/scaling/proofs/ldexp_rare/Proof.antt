@@ -7,10 +7,10 @@ use lib.IntN.{ℤ}
 use lib.Pow.{pow-pos, pow-lt}
 use Rattle.float_format.specs.Format.{Format, unsigned}
 use Rattle.float_format.specs.Width.{format}
-use Rattle.float_format.proofs.Sizes.{sizes}
+use Rattle.float_format.proofs.Sizes.{sizes, from-infinity}
 use Rattle.scaling.specs.Position.{Offset, Position}
 use Rattle.scaling.proofs.Significands.{low-rest}
-use Rattle.scaling.proofs.Classes.{from-infinity, ldexp-not-finite}
+use Rattle.scaling.proofs.Classes.{ldexp-not-finite}
 use Rattle.scaling.proofs.Places.{zero-answer, normal-position, subnormal-position}
 use borrow.Author.Needs.{needs}
 use Rattle.scaling.proofs.ldexp_rare.Statement.{statement}

@@ -2,7 +2,7 @@
 use native.Mathlib.Omega.{arith}
 use Rattle.float_format.specs.Format.{binary32}
 use Rattle.float_format.specs.declared.Direction.the-variants.{HalfAway}
-use Rattle.rounding.proofs.Directions.{answered}
+use Rattle.rounding.proofs.Directions.{not-finite-is}
 use borrow.Author.Needs.{needs}
 use Rattle.rounding.proofs.binary32.round.Statement.{statement}
 use Rattle.rounding.proofs.binary32.round.Tie as tie
@@ -17,10 +17,10 @@ not-finite-requires : tie.Need-not-finite-requires
 not-finite-requires c κs = search needs
 
 cast-result : tie.Need-cast-result
-cast-result c = omega (arith, answered binary32 HalfAway (c .before .before .args .x) (c .not-finite .result) (omega arith) (omega arith) (c .not-finite .ensures HalfAway) .1)
+cast-result c = search needs
 
 returns-2 : tie.Need-returns-2
-returns-2 c = c .not-finite .ensures HalfAway
+returns-2 c = not-finite-is binary32 HalfAway (c .before .before .args .x) (c .not-finite .result) (omega arith) (c .not-finite .ensures .0)
 
 pub round-spec : {M : Type 1} → statement M
 round-spec =
