@@ -1,17 +1,16 @@
 // The C library: each exported function is one call of the layer that has it. include/estrenwind.h declares them.
-use evaluation::RunAnswer;
-use evaluation::SheetAnswer;
 use float_format::Binary32;
 use float_format::Binary64;
 use float_format::Word32;
 use float_format::Word64;
 use scaling::Frexp32;
 use scaling::Frexp64;
+use semantics::RunAnswer;
+use semantics::SheetAnswer;
 use splitting::Patterns32;
 use splitting::Patterns64;
 ghost use mathlib.Core.Path.{_≡_};
 ghost use mathlib.Core.List.{List};
-ghost use Prim.Native.Nat.{ℕ};
 ghost use lib.ListN.{length};
 ghost use Rattle.float_format.specs.Format.{binary32, binary64, classify, classNumber, absolute, negated};
 ghost use Rattle.float_format.specs.Rounding.{integral, lroundRefusal, lroundValue};
@@ -21,11 +20,11 @@ ghost use Rattle.scaling.specs.Scaling.{frexpFraction, frexpExponent, ldexp, ld
 ghost use Rattle.remainder.specs.Remainder.{fmod, fmodRefusal};
 ghost use Rattle.ordering.specs.Ordering.{nextafter, nextafterRefusal, fmin, fmax};
 ghost use Rattle.recipe.specs.declared.Step.{Step};
-ghost use Rattle.evaluation.specs.Range.{Range};
-ghost use Rattle.evaluation.specs.Run.{runOf, answerOf, wordsOf};
-ghost use Rattle.evaluation.specs.Sheet.{sheetOf, bytesOf};
-ghost use Rattle.evaluation.specs.Sheet as sheet;
-ghost use Rattle.evaluation.specs.Promise.{Given, Promised};
+ghost use Rattle.recipe.specs.Text.{short, steps, readText};
+ghost use Rattle.semantics.specs.Run.{runOf, answerOf, wordsOf};
+ghost use Rattle.semantics.specs.Sheet.{sheetOf, bytesOf};
+ghost use Rattle.semantics.specs.Sheet as sheet;
+ghost use Rattle.semantics.specs.Promise.{Keeps};
 
 // A whole number, and the number of the refusal, 0 where there is none.
 #[repr(C)]
@@ -271,7 +270,7 @@ pub extern "C" fn ew_sheet(text: &[u8], bytes: &mut [u8]) -> SheetAnswer
     ensures { λ r. ⌜ (r ≡ sheet.answerOf (sheetOf (now (text .entry)) (length (now (bytes .entry)))))
         × (now (bytes .exit) ≡ bytesOf (sheetOf (now (text .entry)) (length (now (bytes .entry)))) (now (bytes .entry))) ⌝ }
 {
-    evaluation::sheet(text, bytes)
+    sheets::sheet(text, bytes)
 }
 
 // The second part of the contract is demand 3: what a passed sheet promises of this run.
@@ -279,8 +278,7 @@ pub extern "C" fn ew_sheet(text: &[u8], bytes: &mut [u8]) -> SheetAnswer
 pub extern "C" fn ew_run(text: &[u8], frame: &[u8], words: &mut [u64]) -> RunAnswer
     ensures { λ r. ⌜ (r ≡ answerOf (runOf (now (text .entry)) (now (frame .entry)) (length (now (words .entry)))))
         × (now (words .exit) ≡ wordsOf (runOf (now (text .entry)) (now (frame .entry)) (length (now (words .entry)))) (now (words .entry))) ⌝ }
-    ensures { λ r. ⌜ ((l : List Step) (rs : List Range) (ws : List ℕ) → Given (now (text .entry)) (now (frame .entry)) (length (now (words .entry))) l rs ws →
-        Promised (now (text .entry)) (now (frame .entry)) (now (words .entry)) l rs r (now (words .exit))) ⌝ }
+    ensures { λ r. ⌜ ((l : List Step) → readText short (now (text .entry)) ≡ steps l → Keeps l (now (frame .entry)) (now (words .entry)) r (now (words .exit))) ⌝ }
 {
-    evaluation::run(text, frame, words)
+    running::run(text, frame, words)
 }

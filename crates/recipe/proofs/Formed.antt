@@ -11,11 +11,12 @@ use lib.ListN.{length, getD, take, length-append, List·getD-append}
 use lib.Seq.{take-append-le, take-at, take-suc, getD-at}
 use borrow.Author.Tests.{ltb-true, ltb-false, leb-false}
 use Rattle.recipe.specs.declared.Step.{Step}
-use Rattle.recipe.specs.declared.Recipe.{Recipe}
+use Rattle.recipe.specs.declared.Reading.{Reading}
 use Rattle.recipe.specs.Table.{rowOf, isInput}
 use Rattle.recipe.specs.Text.{Form, lineLength, Line, good, malformed, Text, steps, refused, Next, added, stopped, noStep, isUnknown, unusedSet, operandAhead, wrongKind, badRange, inputsIn, stepRefusal, judged, nextOf, onNext, lineAt, readFrom, badLength}
+use Rattle.recipe.specs.Packed.{stepsIn}
 use Rattle.recipe.specs.Answer.{Says, Formed, Checked}
-use Rattle.recipe.proofs.Steps.{never, whole-lines, inputs-more}
+use Rattle.recipe.proofs.Counts.{never, whole-lines, inputs-more}
 
 -- ---- one step's refusal
 
@@ -188,13 +189,9 @@ inputs-so-far most l g (suc k) h =
 -- ---- the answer
 
 -- by whether the answer has a refusal, where 0 is the number of none
-pub says-which : (t : Text) (r : Recipe) → ((n p : ℕ) → t ≡ refused n p → 0 < n) → Says t r
-    → (r .refusal ≡ 0 → t ≡ steps (take (r .count) (r .steps))) × ((r .refusal ≡ 0 → ⊥) → t ≡ refused (r .refusal) (r .place))
-says-which (steps l) r h g = (λ e. rw (g .kept), λ e. absurd (e (g .not-refused)))
-says-which (refused n p) r h g =
+pub says-which : (t : Text) (r : Reading) (w : List ℕ) → ((n p : ℕ) → t ≡ refused n p → 0 < n) → Says t r w
+    → (r .refusal ≡ 0 → t ≡ steps (stepsIn w (r .count))) × ((r .refusal ≡ 0 → ⊥) → t ≡ refused (r .refusal) (r .place))
+says-which (steps l) r w h g = (λ e. rw (g .kept), λ e. absurd (e (g .not-refused)))
+says-which (refused n p) r w h g =
     let z = h n p refl in
     (λ e. absurd (omega (arith, g .numbered)), λ e. rw (g .numbered, g .placed))
-
-pub says-count : (t : Text) (r : Recipe) → ((l : List Step) → t ≡ steps l → length l ≤ 128) → Says t r → (r .count ≤ 128) × (length (r .steps) ≡ 128)
-says-count (steps l) r h g = (omega (arith, g .counted, h l refl), g .room)
-says-count (refused n p) r h g = (omega (arith, g .none), g .room)

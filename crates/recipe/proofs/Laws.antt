@@ -2,15 +2,17 @@
 use mathlib.Core.Path.{_≡_, refl}
 use mathlib.Core.List.{List}
 use mathlib.Core.Logic.{_⊎_, ⊎-elim}
-use Prim.Native.Nat.{ℕ, _/_, _≤_, _<_}
+use Prim.Native.Nat.{ℕ, _*_, _/_, _≤_, _<_}
 use native.Mathlib.Omega.{arith}
 use lib.ListN.{length, take}
 use lib.Seq.{take-length}
 use Rattle.recipe.specs.declared.Step.{Step}
-use Rattle.recipe.specs.declared.Recipe.{Recipe}
-use Rattle.recipe.specs.Text.{Form, lineLength, short, steps, refused, inputsIn, stepRefusal, badLength, readText}
-use Rattle.recipe.specs.Answer.{Passed, Says, Formed, Checked}
-use Rattle.recipe.proofs.Formed.{checked, numbered, formed-by, refused-by, inputs-so-far, says-which, says-count}
+use Rattle.recipe.specs.declared.Reading.{Reading}
+use Rattle.recipe.specs.Text.{Form, lineLength, mostSteps, short, steps, refused, inputsIn, stepRefusal, badLength, readText}
+use Rattle.recipe.specs.Packed.{stepsIn}
+use Rattle.recipe.specs.Answer.{Says, Formed, Holds, Checked}
+use Rattle.recipe.proofs.Formed.{checked, numbered, formed-by, refused-by, inputs-so-far, says-which}
+use Rattle.recipe.proofs.Packed.{steps-length, holds-first}
 
 -- ---- one step
 
@@ -45,22 +47,21 @@ formed-inputs most l g = rw take-length at (inputs-so-far most l g (length l) (o
 pub refusal-positive : (f : Form) (s : List ℕ) (n p : ℕ) → readText f s ≡ refused n p → 0 < n
 refusal-positive f s n p e = ⊎-elim (λ w. omega (arith, w .0)) (λ w. omega (arith, w .0)) (read-refused f s n p e)
 
-module _ (s : List ℕ) (r : Recipe) (g : Says (readText short s) r) where
-  -- Every answer has room for 128 steps, and counts no more.
-  pub answer-count : (r .count ≤ 128) × (length (r .steps) ≡ 128)
-  answer-count = says-count (readText short s) r (λ l e. read-formed short s l e .few) g
-
+module _ (s : List ℕ) (r : Reading) (w : List ℕ) (g : Says (readText short s) r w) where
   -- An answer with refusal 0 has the text's steps ..
-  pub answer-steps : r .refusal ≡ 0 → readText short s ≡ steps (take (r .count) (r .steps))
-  answer-steps e = says-which (readText short s) r (refusal-positive short s) g .0 e
+  pub answer-steps : r .refusal ≡ 0 → readText short s ≡ steps (stepsIn w (r .count))
+  answer-steps e = says-which (readText short s) r w (refusal-positive short s) g .0 e
 
-  -- .. and counts them right, in an array of 128; and they are formed.
-  pub answer-passed : r .refusal ≡ 0 → Passed (take (r .count) (r .steps)) r
-  answer-passed e = let h : Says (steps (take (r .count) (r .steps))) r = rw (answer-steps e) at g in h
+  -- .. and they are formed, so that the words up to the last of them hold them.
+  pub answer-formed : r .refusal ≡ 0 → Formed mostSteps (stepsIn w (r .count))
+  answer-formed e = read-formed short s (stepsIn w (r .count)) (answer-steps e)
 
-  pub answer-formed : r .refusal ≡ 0 → Formed 128 (take (r .count) (r .steps))
-  answer-formed e = read-formed short s (take (r .count) (r .steps)) (answer-steps e)
+  pub answer-count : r .refusal ≡ 0 → (1 ≤ r .count) × (r .count ≤ mostSteps)
+  answer-count e = let f = answer-formed e in let n = steps-length w (r .count) in (omega (arith, f .some), omega (arith, f .few))
+
+  pub answer-holds : r .refusal ≡ 0 → 3 * r .count ≤ length w → Holds (stepsIn w (r .count)) (take (3 * r .count) w)
+  answer-holds e h = holds-first w (r .count) h (answer-formed e)
 
   -- Any other answer has the text's refusal.
   pub answer-refused : (r .refusal ≡ 0 → ⊥) → readText short s ≡ refused (r .refusal) (r .place)
-  answer-refused e = says-which (readText short s) r (refusal-positive short s) g .1 e
+  answer-refused e = says-which (readText short s) r w (refusal-positive short s) g .1 e

@@ -1,9 +1,8 @@
--- The laws that the functions' proofs cite, those of the definitions, and the examples.
-pub mod Compare
+-- The laws of `recipe`.
+pub mod Counts
 pub mod Rows
-pub mod Fields
-pub mod Steps
-pub mod Reading
 pub mod Formed
+pub mod Packed
 pub mod Laws
+pub mod Checks
 pub mod Examples

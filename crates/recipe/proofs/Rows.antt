@@ -1,16 +1,15 @@
 -- The step table between its single opcodes: which row a range of opcodes has, and that the gaps have none. From opcode 10 on the table has
 -- three blocks, each a range and one opcode after it; a block is passed over, before or after it, or entered. Assumes nothing.
-use mathlib.Core.Path.{_≡_, refl, _∙_}
-use mathlib.Core.Bool.{Bool, true, false, _&&_, cond}
+use mathlib.Core.Path.{_≡_, _∙_}
+use mathlib.Core.Bool.{cond}
 use Prim.Native.Nat.{ℕ, _≤_, _<_}
 use native.Mathlib.Omega.{arith}
-use lib.Dec.{eqb, leb}
-use borrow.Author.Tests.{ne-eqb, le-leb, lt-leb, eqb-true, leb-true}
+use lib.Dec.{eqb}
+use borrow.Author.Tests.{ne-eqb, le-leb, lt-leb}
 use Rattle.recipe.specs.declared.Row.{Row}
-use Rattle.recipe.specs.declared.Row.the-variants.{Unknown, Input, Constant, Unary, Binary}
+use Rattle.recipe.specs.declared.Row.the-variants.{Unknown, Unary, Binary}
 use Rattle.recipe.specs.declared.Kind.the-variants.{Double, Whole}
-use Rattle.recipe.proofs.Steps.{never}
-use Rattle.recipe.specs.Table.{within, rowOf, answerKind}
+use Rattle.recipe.specs.Table.{within, rowOf}
 
 -- a row from low to high, and one at the opcode after them
 record Block : Type 0 where
@@ -90,42 +89,3 @@ module _ (n : ℕ) where
 
   pub after-32 : 0x32 < n → rowOf n ≡ Unknown
   after-32 l = after-23 (omega arith) ∙ after thirties n Unknown (omega arith) (omega arith) (λ e. omega arith)
-
--- ---- the kind of a step's value
-
-double-or : (b : Bool) (x y : Row) → (b ≡ true → answerKind x ≡ Double) → answerKind y ≡ Double → answerKind (cond b x y) ≡ Double
-double-or true x y h k = h refl
-double-or false x y h k = k
-
-both : (x y : Bool) → (x && y) ≡ true → (x ≡ true) × (y ≡ true)
-both true y e = (refl, e)
-both false y e = never (cc)
-
--- every opcode but five gives a double, and so does one that the table has not
-pub gives-double : (n : ℕ) → (n ≡ 2 → ⊥) → (n ≡ 4 → ⊥) → (n ≡ 0x18 → ⊥) → (n ≡ 0x30 → ⊥) → (n ≡ 0x31 → ⊥) → answerKind (rowOf n) ≡ Double
-unfolding rowOf
-gives-double n not2 not4 not18 not30 not31 =
-    let r32 : Row = cond (eqb n 0x32) (Unary Whole Double) Unknown in
-    let r30 : Row = cond (within 0x30 0x31 n) (Binary Whole Whole Whole) r32 in
-    let r23 : Row = cond (eqb n 0x23) (Binary Double Whole Double) r30 in
-    let r20 : Row = cond (within 0x20 0x22 n) (Binary Double Double Double) r23 in
-    let r18 : Row = cond (eqb n 0x18) (Unary Double Whole) r20 in
-    let r10 : Row = cond (within 0x10 0x17 n) (Unary Double Double) r18 in
-    let r4 : Row = cond (eqb n 0x04) (Constant Whole) r10 in
-    let r3 : Row = cond (eqb n 0x03) (Constant Double) r4 in
-    let r2 : Row = cond (eqb n 0x02) (Input Whole) r3 in
-    double-or (eqb n 0x01) (Input Double) r2 (λ e. refl)
-    (double-or (eqb n 0x02) (Input Whole) r3 (λ e. absurd (not2 (eqb-true n 0x02 e)))
-    (double-or (eqb n 0x03) (Constant Double) r4 (λ e. refl)
-    (double-or (eqb n 0x04) (Constant Whole) r10 (λ e. absurd (not4 (eqb-true n 0x04 e)))
-    (double-or (within 0x10 0x17 n) (Unary Double Double) r18 (λ e. refl)
-    (double-or (eqb n 0x18) (Unary Double Whole) r20 (λ e. absurd (not18 (eqb-true n 0x18 e)))
-    (double-or (within 0x20 0x22 n) (Binary Double Double Double) r23 (λ e. refl)
-    (double-or (eqb n 0x23) (Binary Double Whole Double) r30 (λ e. refl)
-    (double-or (within 0x30 0x31 n) (Binary Whole Whole Whole) r32 (λ e.
-    let w = both (leb 0x30 n) (leb n 0x31) e in
-    let l : 0x30 ≤ n = leb-true 0x30 n (w .0) in
-    let h : n ≤ 0x31 = leb-true n 0x31 (w .1) in
-    let z : n < 0x31 → ⊥ = λ k. not30 (omega arith) in
-    absurd (not31 (omega arith)))
-    (double-or (eqb n 0x32) (Unary Whole Double) Unknown (λ e. refl) refl)))))))))

@@ -2,32 +2,31 @@
 use mathlib.Core.Path.{_≡_}
 use mathlib.Core.Bool.{false, _&&_}
 use mathlib.Core.List.{List}
-use Prim.Native.Nat.{ℕ, _≤_, _<_}
+use Prim.Native.Nat.{ℕ, _*_, _≤_, _<_}
 use lib.Dec.{leb}
 use lib.ListN.{length, getD, take}
 use Rattle.recipe.specs.declared.Step.{Step}
-use Rattle.recipe.specs.declared.Recipe.{Recipe}
+use Rattle.recipe.specs.declared.Reading.{Reading}
 use Rattle.recipe.specs.Table.{rowOf, isInput}
-use Rattle.recipe.specs.Text.{Text, steps, refused, noStep, isUnknown, unusedSet, operandAhead, wrongKind, badRange, inputsIn, stepRefusal}
+use Rattle.recipe.specs.Text.{Text, steps, refused, mostSteps, noStep, isUnknown, unusedSet, operandAhead, wrongKind, badRange, inputsIn, stepRefusal}
+use Rattle.recipe.specs.Packed.{stepsIn, stepsOf}
 
--- the answer has the steps l, and room for 128
-pub record Passed (l : List Step) (r : Recipe) : Type 0 where
+-- the text has the steps l, and they stand in the first words of w
+pub record Passed (l : List Step) (r : Reading) (w : List ℕ) : Type 0 where
   pub not-refused : r .refusal ≡ 0
   pub no-place : r .place ≡ 0
   pub counted : r .count ≡ length l
-  pub kept : take (r .count) (r .steps) ≡ l
-  pub room : length (r .steps) ≡ 128
+  pub kept : stepsIn w (r .count) ≡ l
 
--- the answer has a refusal's number and place; what stands in the places of steps is left free
-pub record Refused (number k : ℕ) (r : Recipe) : Type 0 where
+-- the answer has a refusal's number and place; what stands in the words is left free
+pub record Refused (number k : ℕ) (r : Reading) : Type 0 where
   pub numbered : r .refusal ≡ number
   pub placed : r .place ≡ k
   pub none : r .count ≡ 0
-  pub room : length (r .steps) ≡ 128
 
-abbrev pub Says : Text → Recipe → Type 0
-Says (steps l) r = Passed l r
-Says (refused number k) r = Refused number k r
+abbrev pub Says : Text → Reading → List ℕ → Type 0
+Says (steps l) r w = Passed l r w
+Says (refused number k) r w = Refused number k r
 
 -- What is known of the steps of a text that passed: there are 1 to `most`, and each, after those before it, is refused for nothing.
 pub record Formed (most : ℕ) (l : List Step) : Type 0 where
@@ -35,7 +34,13 @@ pub record Formed (most : ℕ) (l : List Step) : Type 0 where
   pub few : length l ≤ most
   pub passed : (k : ℕ) → k < length l → stepRefusal (take k l) (getD l k noStep) ≡ 0
 
--- The same of one step t after the steps l, check by check.
+-- The words w are those of the steps l, which are formed, and of nothing else.
+pub record Holds (l : List Step) (w : List ℕ) : Type 0 where
+  pub formed : Formed mostSteps l
+  pub size : length w ≡ 3 * length l
+  pub kept : stepsOf w ≡ l
+
+-- What `Formed` says of one step t after the steps l, check by check.
 pub record Checked (l : List Step) (t : Step) : Type 0 where
   pub known : isUnknown (rowOf (t .opcode)) ≡ false
   pub unused : unusedSet (rowOf (t .opcode)) t ≡ false

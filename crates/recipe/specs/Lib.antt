@@ -1,5 +1,5 @@
--- What the contracts of `recipe` cite, in document 01's order.
+-- What a recipe's text is read to, in document 01's order.
 pub mod Table
 pub mod Text
+pub mod Packed
 pub mod Answer
-pub mod Checks

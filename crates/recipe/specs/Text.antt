@@ -26,12 +26,20 @@ pub record Form : Type 0 where
   pub operand : ℕ
   pub most : ℕ
 
+-- the most steps that any form has
+abbrev pub mostSteps : ℕ
+mostSteps = 128
+
 abbrev pub short : Form
-short = record { operand = 2; most = 128 }
+short = record { operand = 2; most = mostSteps }
 
 -- opcode 2 digits, A, B, P 16, Q 16, a line feed: 39 bytes
 abbrev pub lineLength : Form → ℕ
 lineLength f = 35 + 2 * f .operand
+
+-- the bytes of the longest text: 4,992
+abbrev pub longest : Form → ℕ
+longest f = f .most * lineLength f
 
 -- ---- a line's fields
 
@@ -175,7 +183,7 @@ readFrom f s (suc n) k l = onNext (nextOf l (lineAt f s (k * lineLength f))) k (
 
 -- refusal 10: no line, not whole lines, or too many
 abbrev pub badLength : Form → ℕ → Bool
-badLength f n = eqb n 0 || not (eqb (n % lineLength f) 0) || ltb (f .most * lineLength f) n
+badLength f n = eqb n 0 || not (eqb (n % lineLength f) 0) || ltb (longest f) n
 
 unfoldable pub readText : Form → List ℕ → Text
 readText f s = cond (badLength f (length s)) (refused 10 0) (readFrom f s (length s / lineLength f) 0 [])

@@ -1,9 +1,6 @@
--- The laws of lines and chunks.
+-- Laws in the shape of the code.
 pub mod Written
-pub mod Lines
-pub mod Parts
-pub mod Stages
-pub mod Chunks
-pub mod Laws
+pub mod Keeping
+pub mod Answering
+pub mod Taking
 pub mod Sheets
-pub mod Examples

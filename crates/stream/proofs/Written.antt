@@ -5,13 +5,12 @@ use Prim.Native.Nat.{ℕ, _+_, _≤_, _<_}
 use native.Mathlib.Omega.{arith}
 use lib.ListN.{length, length-append, length-drop, length-set, set, take, drop}
 use lib.Seq.{take-at}
-use borrow.Author.Tests.{lt-ltb, le-ltb, eq-eqb, ne-eqb}
+use borrow.Author.Tests.{eq-eqb}
 use Rattle.hex.specs.Hex.{digits}
 use Rattle.hex.proofs.Digits.{length-digits}
 use Rattle.hex.proofs.Parts.{put, set-next, put-next, length-put}
-use Rattle.evaluation.specs.declared.RunAnswer.{RunAnswer}
-use Rattle.evaluation.specs.Run.{runOf, answerOf}
-use Rattle.stream.specs.Output.{refusalLine, answerLine, frameLine}
+use Rattle.semantics.specs.declared.RunAnswer.{RunAnswer}
+use Rattle.programs.specs.Output.{refusalLine, answerLine}
 
 -- ---- a refusal line
 
@@ -21,6 +20,9 @@ module _ (xs a b d : List ℕ) (h : 19 ≤ length xs) (p : length a ≡ 2) (q : 
       let n1 : length (a ++ drop 2 xs) ≡ length xs = length-append a (drop 2 xs) ∙ simp length-drop (omega arith) in
       let n2 : length (put 2 2 (a ++ drop 2 xs) b) ≡ length xs = length-put (a ++ drop 2 xs) b 2 2 (omega arith) q ∙ n1 in
       length-put (put 2 2 (a ++ drop 2 xs) b) d 4 2 (omega arith) r ∙ n2
+
+  pub refusal-same : length (set (put 4 2 (put 2 2 (a ++ drop 2 xs) b) d) 6 10) ≡ length xs
+  refusal-same = simp length-set refusal-length
 
   refusal-fields : take 7 (set (put 4 2 (put 2 2 (a ++ drop 2 xs) b) d) 6 10) ≡ a ++ (b ++ (d ++ (10 ∷ [])))
   refusal-fields =
@@ -43,13 +45,6 @@ refusal-written number place xs a b d h p q r =
     refusal-fields xs a b d h (ap length p ∙ length-digits 2 0xff) (ap length q ∙ length-digits 2 number) (ap length r ∙ length-digits 2 place)
     ∙ rw (p, q, r)
 
-pub refusal-same : (number place : ℕ) (xs a b d : List ℕ) → 19 ≤ length xs
-    → a ≡ digits 2 0xff → b ≡ digits 2 number → d ≡ digits 2 place
-    → length (set (put 4 2 (put 2 2 (a ++ drop 2 xs) b) d) 6 10) ≡ length xs
-refusal-same number place xs a b d h p q r =
-    simp length-set
-    (refusal-length xs a b d h (ap length p ∙ length-digits 2 0xff) (ap length q ∙ length-digits 2 number) (ap length r ∙ length-digits 2 place))
-
 -- ---- the answer to a frame
 
 module _ (xs a b : List ℕ) (h : 19 ≤ length xs) (p : length a ≡ 2) (q : length b ≡ 16) where
@@ -57,6 +52,9 @@ module _ (xs a b : List ℕ) (h : 19 ≤ length xs) (p : length a ≡ 2) (q : le
   answer-length =
       let n1 : length (a ++ drop 2 xs) ≡ length xs = length-append a (drop 2 xs) ∙ simp length-drop (omega arith) in
       length-put (a ++ drop 2 xs) b 2 16 (omega arith) q ∙ n1
+
+  pub answer-same : length (set (put 2 16 (a ++ drop 2 xs) b) 18 10) ≡ length xs
+  answer-same = simp length-set answer-length
 
   answer-fields : take 19 (set (put 2 16 (a ++ drop 2 xs) b) 18 10) ≡ a ++ (b ++ (10 ∷ []))
   answer-fields =
@@ -74,22 +72,3 @@ unfolding answerLine
 answer-written r xs a b h z p q =
     answer-fields xs a b h (ap length p ∙ length-digits 2 (r .kind)) (ap length q ∙ length-digits 16 (r .word))
     ∙ rw (p, q, eq-eqb (r .refusal) 0 z)
-
-pub answer-same : (r : RunAnswer) (xs a b : List ℕ) → 19 ≤ length xs → a ≡ digits 2 (r .kind) → b ≡ digits 16 (r .word)
-    → length (set (put 2 16 (a ++ drop 2 xs) b) 18 10) ≡ length xs
-answer-same r xs a b h p q =
-    simp length-set (answer-length xs a b h (ap length p ∙ length-digits 2 (r .kind)) (ap length q ∙ length-digits 16 (r .word)))
-
-pub answer-refused : (r : RunAnswer) → (r .refusal ≡ 0 → ⊥) → answerLine r ≡ refusalLine (r .refusal) (r .place)
-unfolding answerLine
-answer-refused r h = rw (ne-eqb (r .refusal) 0 h)
-
--- ---- a frame line
-
-pub frame-long : (t l : List ℕ) → 256 < length l → frameLine t l ≡ refusalLine 30 0
-unfolding frameLine
-frame-long t l h = rw (lt-ltb 256 (length l) h)
-
-pub frame-short : (t l : List ℕ) → length l ≤ 256 → frameLine t l ≡ answerLine (answerOf (runOf t l 128))
-unfolding frameLine
-frame-short t l h = rw (le-ltb 256 (length l) h)

@@ -1,18 +1,18 @@
 // Lines of output: a refusal's, and the answer to a frame.
 ghost use mathlib.Core.Path.{_≡_};
 ghost use mathlib.Core.List.{List};
-ghost use Prim.Native.Nat.{ℕ, _≤_};
+ghost use Prim.Native.Nat.{_≤_};
 ghost use lib.ListN.{length, take};
-ghost use Rattle.recipe.specs.Text.{short, readText};
-ghost use Rattle.recipe.specs.Answer.{Says};
-ghost use Rattle.stream.specs.Output.{refusalLine, answerLine, frameLine};
-ghost use Rattle.stream.specs.Stage.{Put};
-use evaluation::RunAnswer;
-use evaluation::run_recipe;
-use recipe::Recipe;
+ghost use Rattle.recipe.specs.declared.Step.{Step};
+ghost use Rattle.recipe.specs.Answer.{Holds};
+ghost use Rattle.programs.specs.Output.{refusalLine, answerLine, frameLine};
+ghost use Rattle.programs.specs.Stage.{Put};
+use recipe::MOST_STEPS;
+use running::run_recipe;
+use semantics::RunAnswer;
 
 // The bytes of the longest line, with its line feed.
-pub const LINE: usize = 19;
+pub(crate) const LINE: usize = 19;
 
 // Writes a refusal line at the start of out, and answers its length.
 pub(crate) fn refusal_line(number: u64, place: u64, out: &mut [u8]) -> usize
@@ -40,15 +40,16 @@ fn answer_line(a: RunAnswer, out: &mut [u8]) -> usize
     LINE
 }
 
-// The same of a frame line, its line feed left out. Refuses 30 where it is longer than the longest frame.
-pub(crate) fn frame_line(recipe: Recipe, line: &[u8], out: &mut [u8]) -> usize
+// The same of a frame line, its line feed left out, for the steps in these words. Refuses 30 where it is longer than the longest frame.
+pub(crate) fn frame_line(steps: &[u64], line: &[u8], out: &mut [u8]) -> usize
     requires { ⌜ 19 ≤ length (now out) ⌝ }
-    ensures { λ r. ⌜ (r ≤ 19) × ((t : List ℕ) → Says (readText short t) recipe → take r (now (out .exit)) ≡ frameLine t (now (line .entry))) ⌝ }
+    ensures { λ r. ⌜ (r ≤ 19) × (
+        (l : List Step) → Holds l (now (steps .entry)) → take r (now (out .exit)) ≡ frameLine l (now (line .entry))) ⌝ }
 {
     if line.len() > 256 {
         return refusal_line(30, 0, out);
     }
-    let mut words = [0u64; 128];
-    let a = run_recipe(recipe, line, &mut words);
+    let mut words = [0u64; MOST_STEPS];
+    let a = run_recipe(steps, line, &mut words);
     answer_line(a, out)
 }

@@ -4,27 +4,20 @@ ghost use mathlib.Core.Path.{_≡_};
 ghost use mathlib.Core.List.{List, _++_};
 ghost use Prim.Native.Nat.{ℕ, _≤_, _<_};
 ghost use lib.ListN.{length, take};
-ghost use Rattle.recipe.specs.Text.{short, readText};
-ghost use Rattle.recipe.specs.Answer.{Says};
-ghost use Rattle.stream.specs.Output.{frameLine};
-ghost use Rattle.stream.specs.Stage.{NoFeed, Kept, LineEnd, Answered, Handled, between};
+ghost use Rattle.recipe.specs.declared.Step.{Step};
+ghost use Rattle.recipe.specs.Answer.{Holds};
+ghost use Rattle.programs.specs.Output.{frameLine};
+ghost use Rattle.programs.specs.Stage.{NoFeed, Kept, LineEnd, Answered, Handled, between};
 use super::answer::LINE;
 use super::answer::frame_line;
 use super::answer::refusal_line;
-use recipe::Recipe;
+use programs::Lines;
 
 // What a piece of a chunk came to: the place after it, the bytes kept of the line that it ends in, and the bytes put out.
 pub struct Turn {
     pub at: usize,
     pub count: usize,
     pub put: usize,
-}
-
-// What whole lines came to: the place after them, the bytes put out, and whether out had too little room for more.
-pub struct Lines {
-    pub at: usize,
-    pub put: usize,
-    pub full: bool,
 }
 
 // The place of the first line feed of s from a place on, or s's length where there is none.
@@ -45,7 +38,7 @@ fn line_end(s: &[u8], from: usize) -> usize
 // Adds a part to the n bytes kept of a line, and answers how many are kept then; 257 where the line is longer than the longest frame.
 fn keep(buffer: &mut [u8], n: usize, part: &[u8]) -> usize
     requires { ⌜ 256 ≤ length (now buffer) ⌝ }
-    ensures { λ r. ⌜ ((l : List ℕ) → Kept l n (now (buffer .entry)) → Kept (l ++ now (part .entry)) r (now (buffer .exit))) ⌝ }
+    ensures { λ r. ⌜ ((line : List ℕ) → Kept line n (now (buffer .entry)) → Kept (line ++ now (part .entry)) r (now (buffer .exit))) ⌝ }
 {
     let mut k = n;
     let mut i: usize = 0;
@@ -60,12 +53,22 @@ fn keep(buffer: &mut [u8], n: usize, part: &[u8]) -> usize
     k
 }
 
+// Answers a line of which n bytes are kept.
+pub(crate) fn kept_line(steps: &[u64], buffer: &[u8], n: usize, out: &mut [u8]) -> usize
+    requires { ⌜ (256 ≤ length (now buffer)) × (19 ≤ length (now out)) ⌝ }
+    ensures { λ r. ⌜ (r ≤ 19) × (
+        (l : List Step) (line : List ℕ) → Holds l (now (steps .entry)) → Kept line n (now (buffer .entry)) → take r (now (out .exit)) ≡ frameLine l line) ⌝ }
+{
+    if n > 256 {
+        return refusal_line(30, 0, out);
+    }
+    frame_line(steps, &buffer[..n], out)
+}
+
 // Answers the lines of s from a place on, until no line feed is left or out has too little room for another answer.
-//
-// `frame_line` is called from here alone, so that it is inlined: the recipe goes by value, and a call that is left copies it.
-fn answer_lines(recipe: Recipe, s: &[u8], from: usize, out: &mut [u8]) -> Lines
+fn answer_lines(steps: &[u64], s: &[u8], from: usize, out: &mut [u8]) -> Lines
     requires { ⌜ (from ≤ length (now s)) × (19 ≤ length (now out)) ⌝ }
-    ensures { λ r. ⌜ (r .put ≤ length (now (out .entry))) × Answered recipe (now (s .entry)) from r (now (out .exit)) ⌝ }
+    ensures { λ r. ⌜ (r .put ≤ length (now (out .entry))) × Answered (now (steps .entry)) (now (s .entry)) from r (now (out .exit)) ⌝ }
 {
     let mut i = from;
     let mut put: usize = 0;
@@ -78,7 +81,7 @@ fn answer_lines(recipe: Recipe, s: &[u8], from: usize, out: &mut [u8]) -> Lines
                 full: false,
             };
         }
-        put += frame_line(recipe, &s[i..end], &mut out[put..]);
+        put += frame_line(steps, &s[i..end], &mut out[put..]);
         i = end + 1;
     }
     Lines {
@@ -88,33 +91,19 @@ fn answer_lines(recipe: Recipe, s: &[u8], from: usize, out: &mut [u8]) -> Lines
     }
 }
 
-// Answers a line of which n bytes are kept.
-pub(crate) fn kept_line(recipe: Recipe, buffer: &mut [u8], n: usize, out: &mut [u8]) -> usize
-    requires { ⌜ (257 ≤ length (now buffer)) × (19 ≤ length (now out)) ⌝ }
-    ensures { λ r. ⌜ (r ≤ length (now (out .entry))) × (
-        (t l : List ℕ) → Says (readText short t) recipe → Kept l n (now (buffer .entry)) → NoFeed l → take r (now (out .exit)) ≡ frameLine t l) ⌝ }
-{
-    if n > 256 {
-        return refusal_line(30, 0, out);
-    }
-    buffer[n] = b'\n';
-    let lines = answer_lines(recipe, &buffer[..n + 1], 0, out);
-    lines.put
-}
-
 // Takes the chunk's bytes of a line of which a part is kept, and answers the line where it ends in the chunk.
 fn take_rest(
-    recipe: Recipe,
+    steps: &[u64],
     buffer: &mut [u8],
     count: usize,
     chunk: &[u8],
     from: usize,
     out: &mut [u8],
 ) -> Turn
-    requires { ⌜ (257 ≤ length (now buffer)) × (from < length (now chunk)) × (19 ≤ length (now out)) ⌝ }
+    requires { ⌜ (256 ≤ length (now buffer)) × (from < length (now chunk)) × (19 ≤ length (now out)) ⌝ }
     ensures { λ r. ⌜ (from < r .at) × (r .at ≤ length (now (chunk .entry))) × (r .put ≤ length (now (out .entry))) × (
-        (t l : List ℕ) → Says (readText short t) recipe → Kept l count (now (buffer .entry)) → NoFeed l →
-        Handled t l (between from (r .at) (now (chunk .entry))) (take (r .put) (now (out .exit))) (r .count) (now (buffer .exit))) ⌝ }
+        (l : List Step) (line : List ℕ) → Holds l (now (steps .entry)) → Kept line count (now (buffer .entry)) → NoFeed line →
+        Handled l line (between from (r .at) (now (chunk .entry))) (take (r .put) (now (out .exit))) (r .count) (now (buffer .exit))) ⌝ }
 {
     let end = line_end(chunk, from);
     let kept = keep(buffer, count, &chunk[from..end]);
@@ -125,7 +114,7 @@ fn take_rest(
             put: 0,
         };
     }
-    let put = kept_line(recipe, buffer, kept, out);
+    let put = kept_line(steps, buffer, kept, out);
     Turn {
         at: end + 1,
         count: 0,
@@ -136,22 +125,22 @@ fn take_rest(
 // Takes the rest of a line of which a part is kept; else line after line, until the chunk is used up or out has too little room for another
 // answer.
 pub(crate) fn take_lines(
-    recipe: Recipe,
+    steps: &[u64],
     buffer: &mut [u8],
     count: usize,
     chunk: &[u8],
     from: usize,
     out: &mut [u8],
 ) -> Turn
-    requires { ⌜ (257 ≤ length (now buffer)) × (from < length (now chunk)) × (19 ≤ length (now out)) ⌝ }
+    requires { ⌜ (256 ≤ length (now buffer)) × (from < length (now chunk)) × (19 ≤ length (now out)) ⌝ }
     ensures { λ r. ⌜ (from < r .at) × (r .at ≤ length (now (chunk .entry))) × (r .put ≤ length (now (out .entry))) × (
-        (t l : List ℕ) → Says (readText short t) recipe → Kept l count (now (buffer .entry)) → NoFeed l →
-        Handled t l (between from (r .at) (now (chunk .entry))) (take (r .put) (now (out .exit))) (r .count) (now (buffer .exit))) ⌝ }
+        (l : List Step) (line : List ℕ) → Holds l (now (steps .entry)) → Kept line count (now (buffer .entry)) → NoFeed line →
+        Handled l line (between from (r .at) (now (chunk .entry))) (take (r .put) (now (out .exit))) (r .count) (now (buffer .exit))) ⌝ }
 {
     if count > 0 {
-        return take_rest(recipe, buffer, count, chunk, from, out);
+        return take_rest(steps, buffer, count, chunk, from, out);
     }
-    let lines = answer_lines(recipe, chunk, from, out);
+    let lines = answer_lines(steps, chunk, from, out);
     let at = lines.at;
     if lines.full {
         return Turn {

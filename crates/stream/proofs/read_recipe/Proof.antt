@@ -6,12 +6,12 @@ use lib.ListN.{take}
 use lib.Seq.{length-take-le}
 use denote.Ref.{now}
 use borrow.Author.Needs.{needs}
-use Rattle.stream.proofs.Stages.{recipe-refused, recipe-passed}
+use Rattle.programs.proofs.Stages.{read-refused, read-passed}
 use Rattle.stream.proofs.read_recipe.Statement.{statement}
 use Rattle.stream.proofs.read_recipe.Tie as tie
 
 slice-aggregate-read : tie.Need-slice-aggregate-read
-slice-aggregate-read c = sym (length-take-le (c .before .before .before .args .n) (now (c .before .before .before .args .buffer)) (omega arith))
+slice-aggregate-read c = sym (length-take-le (c .before .before .before .before .args .n) (now (c .before .before .before .before .args .buffer)) (omega arith))
 
 read-requires : tie.Need-read-requires
 read-requires c κs = search needs
@@ -22,19 +22,26 @@ refusal-line-requires c κs = search needs
 same-length : tie.Need-same-length
 same-length c = search needs
 
+same-length-2 : tie.Need-same-length-2
+same-length-2 c = search needs
+
 returns : tie.Need-returns
 returns c =
-    let a = c .before .before .before .before .before .before .before .before .before .before .args in
-    let t = take (a .n) (now (a .buffer)) in
-    let r = c .before .before .before .before .before .before .read .result in
-    (c .before .before .refusal-line .ensures .0, c .before .before .before .before .before .before .read .ensures, c .before .before .refusal-line .ensures .1 ∙ sym (recipe-refused t r (c .before .before .before .before .before .before .read .ensures) [] (c .before .before .before .before .if1 .taken)))
+    let a = c .before .before .before .before .before .before .before .before .before .before .before .before .before .before .args in
+    let e = c .before .before .before .before .before .before .before .before .read .ensures .1 in (
+      c .before .before .refusal-line .ensures .0,
+      e,
+      c .before .before .refusal-line .ensures .1 ∙ sym (read-refused (take (a .n) (now (a .buffer))) (c .before .before .before .before .before .before .before .before .read .result) (c .before .before .before .before .before .before .before .before .read .last .1 .0) e (λ l. []) (c .before .before .before .before .if1 .taken)),
+    )
+
+same-length-3 : tie.Need-same-length-3
+same-length-3 c = search needs
 
 returns-2 : tie.Need-returns-2
 returns-2 c =
-    let a = c .before .before .before .before .before .before .args in
-    let t = take (a .n) (now (a .buffer)) in
-    let r = c .before .before .read .result in
-    (omega arith, c .before .before .read .ensures, sym (recipe-passed t r (c .before .before .read .ensures) [] (c .if1 .left)))
+    let a = c .before .before .before .before .before .before .before .before .before .before .args in
+    let e = c .before .before .before .before .read .ensures .1 in
+    (omega arith, e, sym (read-passed (take (a .n) (now (a .buffer))) (c .before .before .before .before .read .result) (c .before .before .before .before .read .last .1 .0) e (λ l. []) (c .if1 .left)))
 
 pub read-recipe-spec : {M : Type 1} → statement M
 read-recipe-spec =
@@ -44,5 +51,7 @@ read-recipe-spec =
     read-requires
     refusal-line-requires
     same-length
+    same-length-2
     returns
+    same-length-3
     returns-2)

@@ -2,11 +2,14 @@
 use mathlib.Core.Path.{_∙_, sym, ap}
 use Prim.Native.Nat.{ℕ}
 use native.Mathlib.Omega.{arith}
+use lib.ListN.{length}
 use lib.Seq.{length-take-le}
 use denote.Ref.{now}
 use borrow.Author.Needs.{needs}
 use Rattle.hex.specs.Hex.{digits}
-use Rattle.stream.proofs.Written.{answer-written, answer-same, answer-refused}
+use Rattle.hex.proofs.Digits.{length-digits}
+use Rattle.programs.proofs.Answers.{answer-refused}
+use Rattle.stream.proofs.Written.{answer-written, answer-same}
 use Rattle.stream.proofs.answer.answer_line.Statement.{statement}
 use Rattle.stream.proofs.answer.answer_line.Tie as tie
 
@@ -47,9 +50,9 @@ same-length-2 : tie.Need-same-length-2
 same-length-2 c =
     let s = c .before .before .before .before .before .before .before .before .before .before .before in
     let line = now (s .args .out) in
-    answer-same (s .args .a) line (c .before .before .before .before .before .before .write .last .1 .0) (c .before .before .write2 .last .1 .0) (s .pre)
-    (c .before .before .before .before .before .before .write .ensures ∙ ap (λ (k : ℕ). digits k (s .args .a .kind)) (length-take-le 2 line (omega (arith, s .pre))))
-    (c .before .before .write2 .ensures ∙ ap (λ (k : ℕ). digits k (s .args .a .word)) (c .before .before .before .write-arg2 .given .2))
+    answer-same line (c .before .before .before .before .before .before .write .last .1 .0) (c .before .before .write2 .last .1 .0) (s .pre)
+    (ap length (c .before .before .before .before .before .before .write .ensures) ∙ length-digits _ _ ∙ length-take-le 2 line (omega (arith, s .pre)))
+    (ap length (c .before .before .write2 .ensures) ∙ length-digits _ _ ∙ c .before .before .before .write-arg2 .given .2)
 
 returns-2 : tie.Need-returns-2
 returns-2 c =

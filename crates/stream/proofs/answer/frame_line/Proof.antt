@@ -1,9 +1,12 @@
--- `frame_line` meets its contract, by the line's length. Assumes nothing.
+-- `frame_line` meets its contract, by the line's length: words that hold a recipe's steps are run as these steps. Assumes nothing.
 use mathlib.Core.Path.{_∙_, sym, ap}
 use denote.Ref.{now}
 use borrow.Author.Needs.{needs}
-use Rattle.stream.specs.Output.{answerLine}
-use Rattle.stream.proofs.Written.{frame-long, frame-short}
+use Rattle.recipe.specs.Text.{mostSteps}
+use Rattle.semantics.specs.Run.{answerOf}
+use Rattle.semantics.proofs.Calls.{holds-run}
+use Rattle.programs.specs.Output.{answerLine}
+use Rattle.programs.proofs.Answers.{frame-long, frame-short}
 use Rattle.stream.proofs.answer.frame_line.Statement.{statement}
 use Rattle.stream.proofs.answer.frame_line.Tie as tie
 
@@ -14,7 +17,9 @@ same-length : tie.Need-same-length
 same-length c = search needs
 
 returns : tie.Need-returns
-returns c = (c .before .before .refusal-line .ensures .0, λ t g. c .before .before .refusal-line .ensures .1 ∙ sym (frame-long t (now (c .before .before .before .before .before .before .before .args .line)) (c .before .before .before .before .if1 .taken)))
+returns c =
+    let a = c .before .before .before .before .before .before .before .before .args in
+    (c .before .before .refusal-line .ensures .0, λ l g. c .before .before .refusal-line .ensures .1 ∙ sym (frame-long l (now (a .line)) (c .before .before .before .before .if1 .taken)))
 
 slice-aggregate-run-recipe : tie.Need-slice-aggregate-run-recipe
 slice-aggregate-run-recipe c = search needs
@@ -30,9 +35,9 @@ same-length-2 c = search needs
 
 returns-2 : tie.Need-returns-2
 returns-2 c =
-    let line = now (c .before .before .before .before .before .before .before .before .before .before .args .line) in (
+    let a = c .before .before .before .before .before .before .before .before .before .before .before .args in (
       c .before .before .answer-line .ensures .0,
-      λ t g. c .before .before .answer-line .ensures .1 ∙ ap answerLine (c .before .before .before .before .before .run-recipe .ensures .0 t g .0) ∙ sym (frame-short t line (c .before .before .before .before .before .before .before .if1 .left)),
+      λ l g. c .before .before .answer-line .ensures .1 ∙ ap answerLine (c .before .before .before .before .before .run-recipe .ensures .0 .0 ∙ ap answerOf (holds-run l (now (a .steps)) (now (a .line)) mostSteps g)) ∙ sym (frame-short l (now (a .line)) (c .before .before .before .before .before .before .before .if1 .left)),
     )
 
 pub frame-line-spec : {M : Type 1} → statement M

@@ -2,10 +2,12 @@
 use mathlib.Core.Path.{_∙_, sym, ap}
 use Prim.Native.Nat.{ℕ}
 use native.Mathlib.Omega.{arith}
+use lib.ListN.{length}
 use lib.Seq.{length-take-le}
 use denote.Ref.{now}
 use borrow.Author.Needs.{needs}
 use Rattle.hex.specs.Hex.{digits}
+use Rattle.hex.proofs.Digits.{length-digits}
 use Rattle.stream.proofs.Written.{refusal-written, refusal-same}
 use Rattle.stream.proofs.answer.refusal_line.Statement.{statement}
 use Rattle.stream.proofs.answer.refusal_line.Tie as tie
@@ -50,10 +52,10 @@ same-length : tie.Need-same-length
 same-length c =
     let s = c .before .before .before .before .before .before .before .before .before .before .before .before .before in
     let line = now (s .args .out) in
-    refusal-same (s .args .number) (s .args .place) line (c .before .before .before .before .before .before .before .before .before .before .write .last .1 .0) (c .before .before .before .before .before .before .write2 .last .1 .0) (c .before .before .write3 .last .1 .0) (s .pre)
-    (c .before .before .before .before .before .before .before .before .before .before .write .ensures ∙ ap (λ (k : ℕ). digits k 0xff) (length-take-le 2 line (omega (arith, s .pre))))
-    (c .before .before .before .before .before .before .write2 .ensures ∙ ap (λ (k : ℕ). digits k (s .args .number)) (c .before .before .before .before .before .before .before .write-arg2 .given .2))
-    (c .before .before .write3 .ensures ∙ ap (λ (k : ℕ). digits k (s .args .place)) (c .before .before .before .write-arg3 .given .2))
+    refusal-same line (c .before .before .before .before .before .before .before .before .before .before .write .last .1 .0) (c .before .before .before .before .before .before .write2 .last .1 .0) (c .before .before .write3 .last .1 .0) (s .pre)
+    (ap length (c .before .before .before .before .before .before .before .before .before .before .write .ensures) ∙ length-digits _ _ ∙ length-take-le 2 line (omega (arith, s .pre)))
+    (ap length (c .before .before .before .before .before .before .write2 .ensures) ∙ length-digits _ _ ∙ c .before .before .before .before .before .before .before .write-arg2 .given .2)
+    (ap length (c .before .before .write3 .ensures) ∙ length-digits _ _ ∙ c .before .before .before .write-arg3 .given .2)
 
 returns : tie.Need-returns
 returns c =

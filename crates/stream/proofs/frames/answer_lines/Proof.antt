@@ -1,22 +1,24 @@
 -- `answer_lines` meets its contract. The invariant is `Going`: the lines from the start up to i are answered in the first bytes of the
 -- output. The measure is what is left of the bytes. Assumes nothing.
-use mathlib.Core.Path.{_∙_}
-use Prim.Native.Nat.{_-_}
+use mathlib.Core.Path.{_≡_, _∙_}
+use Prim.Native.Nat.{_-_, _<_}
 use native.Mathlib.Omega.{arith}
 use lib.ListN.{length}
 use denote.Ref.{now}
-use Rattle.stream.proofs.Lines.{Going, going-none, going-more, going-rest, going-full}
+use Rattle.stream.proofs.Answering.{Going, going-none, going-more, going-rest, going-full}
 use Rattle.stream.proofs.frames.answer_lines.Statement.{statement}
 use Rattle.stream.proofs.frames.answer_lines.Tie as tie
 
 abbrev Inv-loop : tie.InvT-loop
-Inv-loop recipe s from out₀ i₀ put₀ out i put = Going recipe s from out₀ out i put
+Inv-loop steps s from out₀ i₀ put₀ out i put = Going steps s from out₀ out i put
 
 abbrev μ-loop : tie.MeasureT-loop
-μ-loop recipe s from out₀ i₀ put₀ out i put = length s - i
+μ-loop steps s from out₀ i₀ put₀ out i put = length s - i
 
 loop-holds : tie.Need-loop-holds Inv-loop μ-loop
-loop-holds c = let a = c .before .before .args in going-none (a .recipe) (now (a .s)) (a .from) (now (a .out)) (c .before .before .pre .0)
+loop-holds c =
+    let a = c .before .before .before .args in
+    going-none (now (a .steps)) (now (a .s)) (a .from) (now (a .out)) (c .before .before .before .pre .0)
 
 sub-loop : tie.Need-sub-loop Inv-loop μ-loop
 sub-loop c = omega (arith, c .loop .inv .room, c .loop .inv .out-length)
@@ -29,9 +31,11 @@ same-length c = c .before .before .before .loop .inv .out-length
 
 returns : tie.Need-returns Inv-loop μ-loop
 returns c =
-    let a = c .before .before .before .before .before .before .args in
+    let a = c .before .before .before .before .before .before .before .args in
     let l = c .before .before .before .loop in
-    (l .inv .room, going-rest (a .recipe) (now (a .s)) (a .from) (now (a .out)) (l .out) (l .i) (l .put) (l .inv) (c .before .line-end .result) (c .before .line-end .ensures) (c .if1 .taken))
+    let e = c .before .line-end .result in
+    let h : e ≡ length (now (a .s)) = omega (arith, c .if1 .taken, c .before .line-end .ensures .within) in
+    (l .inv .room, going-rest (now (a .steps)) (now (a .s)) (a .from) (now (a .out)) (l .out) (l .i) (l .put) (l .inv) e (c .before .line-end .ensures) h)
 
 sub-frame-line : tie.Need-sub-frame-line Inv-loop μ-loop
 sub-frame-line c = omega (arith, c .before .line-end .ensures .after)
@@ -65,10 +69,12 @@ loop-less c = omega (arith, c .before .before .before .before .before .before .l
 
 loop-again : tie.Need-loop-again Inv-loop μ-loop
 loop-again c =
-    let a = c .before .before .before .before .before .before .before .before .before .before .before .args in
+    let a = c .before .before .before .before .before .before .before .before .before .before .before .before .args in
     let l = c .before .before .before .before .before .before .before .before .loop in
-    going-more (a .recipe) (now (a .s)) (a .from) (now (a .out)) (l .out) (l .i) (l .put) (l .inv)
-    (c .before .before .before .before .before .before .line-end .result) (c .before .before .frame-line .result) (c .before .before .frame-line .last .1 .1 .0) _ (c .before .before .before .before .before .before .line-end .ensures) (c .before .before .before .before .before .if1 .left) (c .before .before .frame-line .ensures .0) (c .before .before .before .before .before .before .before .loop-test .taken)
+    let e = c .before .before .before .before .before .before .line-end .result in
+    let h : e < length (now (a .s)) = omega (arith, c .before .before .before .before .before .before .line-end .ensures .within, c .before .before .before .before .before .if1 .left) in
+    going-more (now (a .steps)) (now (a .s)) (a .from) (now (a .out)) (l .out) (l .i) (l .put) (l .inv)
+    e (c .before .before .frame-line .result) (c .before .before .frame-line .last .1 .1 .0) _ (c .before .before .before .before .before .before .line-end .ensures) h (c .before .before .frame-line .ensures .0) (c .before .before .before .before .before .before .before .loop-test .taken)
     (c .before .out .given .0 ∙ c .before .before .before .frame-line-arg2 .given .2) (c .before .out .given .1) (c .before .before .frame-line .ensures .1)
 
 same-length-2 : tie.Need-same-length-2 Inv-loop μ-loop
@@ -76,9 +82,9 @@ same-length-2 c = c .before .loop .inv .out-length
 
 returns-2 : tie.Need-returns-2 Inv-loop μ-loop
 returns-2 c =
-    let a = c .before .before .before .before .args in
+    let a = c .before .before .before .before .before .args in
     let l = c .before .loop in
-    (l .inv .room, going-full (a .recipe) (now (a .s)) (a .from) (now (a .out)) (l .out) (l .i) (l .put) (l .inv) (c .before .before .before .before .pre .1) (c .loop-test .left))
+    (l .inv .room, going-full (now (a .steps)) (now (a .s)) (a .from) (now (a .out)) (l .out) (l .i) (l .put) (l .inv) (c .before .before .before .before .before .pre .1) (c .loop-test .left))
 
 pub answer-lines-spec : {M : Type 1} → statement M
 answer-lines-spec =

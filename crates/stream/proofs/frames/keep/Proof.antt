@@ -6,8 +6,8 @@ use Prim.Native.Nat.{ℕ, _-_, _≤_}
 use native.Mathlib.Omega.{arith}
 use lib.ListN.{length, take, length-set}
 use denote.Ref.{now}
-use Rattle.stream.specs.Stage.{Kept}
-use Rattle.stream.proofs.Lines.{kept-start, kept-more, kept-over, kept-done}
+use Rattle.programs.specs.Stage.{Kept}
+use Rattle.stream.proofs.Keeping.{kept-start, kept-more, kept-over, kept-done}
 use Rattle.stream.proofs.frames.keep.Statement.{statement}
 use Rattle.stream.proofs.frames.keep.Tie as tie
 

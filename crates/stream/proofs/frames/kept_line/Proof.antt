@@ -1,13 +1,11 @@
--- `kept_line` meets its contract: the line, with a line feed behind it, is all that `answer_lines` is handed. Assumes nothing.
-use mathlib.Core.Path.{_∙_, sym}
-use Prim.Native.Nat.{_+_}
+-- `kept_line` meets its contract: a line that is kept whole stands at the start of the buffer. Assumes nothing.
+use mathlib.Core.Path.{_∙_, sym, ap}
 use native.Mathlib.Omega.{arith}
-use lib.ListN.{length-set, set, take}
 use lib.Seq.{length-take-le}
 use denote.Ref.{now}
 use borrow.Author.Needs.{needs}
-use Rattle.stream.proofs.Written.{frame-long}
-use Rattle.stream.proofs.Lines.{kept-source, kept-answered}
+use Rattle.programs.specs.Output.{frameLine}
+use Rattle.programs.proofs.Answers.{frame-long}
 use Rattle.stream.proofs.frames.kept_line.Statement.{statement}
 use Rattle.stream.proofs.frames.kept_line.Tie as tie
 
@@ -18,45 +16,19 @@ same-length : tie.Need-same-length
 same-length c = search needs
 
 returns : tie.Need-returns
-returns c =
-    let o = c .before .before .refusal-line .ensures in
-    let r = c .before .before .before .before .before .before .before .pre .1 in
-    (omega (arith, o .0), λ t l g k f. o .1 ∙ sym (frame-long t l (k .long (c .before .before .before .before .if1 .taken))))
+returns c = (c .before .before .refusal-line .ensures .0, λ l line g k. c .before .before .refusal-line .ensures .1 ∙ sym (frame-long l line (k .long (c .before .before .before .before .if1 .taken))))
 
-slice-write-buffer : tie.Need-slice-write-buffer
-slice-write-buffer c = search needs
+slice-aggregate-frame-line : tie.Need-slice-aggregate-frame-line
+slice-aggregate-frame-line c = sym (length-take-le (c .before .before .before .before .before .args .n) (now (c .before .before .before .before .before .args .buffer)) (omega arith))
 
-add-answer-lines : tie.Need-add-answer-lines
-add-answer-lines c = search needs
-
-slice-reshare-prefix-answer-lines : tie.Need-slice-reshare-prefix-answer-lines
-slice-reshare-prefix-answer-lines c = let r = c .before .before .before .pre .0 in simp length-set (omega arith)
-
-slice-aggregate-answer-lines : tie.Need-slice-aggregate-answer-lines
-slice-aggregate-answer-lines c =
-    let a = c .before .before .before .before .args in
-    let r = c .before .before .before .before .pre .0 in
-    sym (length-take-le (a .n + 1) (set (now (a .buffer)) (a .n) 10) (simp length-set (omega arith)))
-
-answer-lines-requires : tie.Need-answer-lines-requires
-answer-lines-requires c κs = search needs
+frame-line-requires : tie.Need-frame-line-requires
+frame-line-requires c κs = search needs
 
 same-length-2 : tie.Need-same-length-2
 same-length-2 c = search needs
 
-same-length-3 : tie.Need-same-length-3
-same-length-3 c = search needs
-
 returns-2 : tie.Need-returns-2
-returns-2 c =
-    let a = c .before .before .before .before .before .before .before .before .args in
-    let b = now (a .buffer) in
-    let r = c .before .before .before .before .before .before .before .before .pre .0 in
-    let o = c .before .before .answer-lines .ensures in (
-      o .0,
-      λ t l g k f.
-          kept-answered l (take (a .n + 1) (set b (a .n) 10)) (kept-source l b (a .n) k (c .before .before .before .before .before .if1 .left) r) f (a .recipe) (c .before .before .answer-lines .result) (c .before .before .answer-lines .last .1 .1 .1 .0) (o .1) t g,
-    )
+returns-2 c = (c .before .before .frame-line .ensures .0, λ l line g k. c .before .before .frame-line .ensures .1 l g ∙ ap (frameLine l) (sym (k .whole (c .before .before .before .before .before .if1 .left))))
 
 pub kept-line-spec : {M : Type 1} → statement M
 kept-line-spec =
@@ -65,11 +37,7 @@ kept-line-spec =
     refusal-line-requires
     same-length
     returns
-    slice-write-buffer
-    add-answer-lines
-    slice-reshare-prefix-answer-lines
-    slice-aggregate-answer-lines
-    answer-lines-requires
+    slice-aggregate-frame-line
+    frame-line-requires
     same-length-2
-    same-length-3
     returns-2)

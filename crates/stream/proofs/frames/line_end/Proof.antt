@@ -4,7 +4,7 @@ use Prim.Native.Nat.{ℕ, _-_, _≤_, _<_}
 use native.Mathlib.Omega.{arith}
 use lib.ListN.{length, getD}
 use denote.Ref.{now}
-use Rattle.stream.proofs.Lines.{ends-more}
+use Rattle.stream.proofs.Answering.{ends-more}
 use Rattle.stream.proofs.frames.line_end.Statement.{statement}
 use Rattle.stream.proofs.frames.line_end.Tie as tie
 

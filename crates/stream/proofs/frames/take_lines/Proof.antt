@@ -4,7 +4,7 @@ use mathlib.Core.List.{[]}
 use native.Mathlib.Omega.{arith}
 use denote.Ref.{now}
 use borrow.Author.Needs.{needs}
-use Rattle.stream.proofs.Lines.{kept-none, kept-nothing, handled-full, handled-rest}
+use Rattle.programs.proofs.FrameLines.{kept-none, kept-nothing, handled-full, handled-rest}
 use Rattle.stream.proofs.frames.take_lines.Statement.{statement}
 use Rattle.stream.proofs.frames.take_lines.Tie as tie
 
@@ -28,13 +28,13 @@ same-length-3 c = search needs
 
 returns-2 : tie.Need-returns-2
 returns-2 c =
-    let a = c .before .before .before .before .before .before .before .before .before .args in
+    let a = c .before .before .before .before .before .before .before .before .before .before .args in
     let r = c .before .before .before .answer-lines .result in
     let o = c .before .before .before .answer-lines .ensures in (
       o .1 .moved (c .if2 .taken),
       o .1 .within,
       o .0,
-      λ t l g k f. rw (kept-none l (now (a .buffer)) (a .count) k (omega arith)) (handled-full t (now (a .chunk)) (a .from) (a .recipe) r (c .before .before .before .answer-lines .last .1 .1 .1 .0) (o .1) g (now (a .buffer))),
+      λ l line g k f. rw (kept-none line (now (a .buffer)) (a .count) k (omega arith)) (handled-full l (now (a .steps)) (now (a .chunk)) (a .from) r (c .before .before .before .answer-lines .last .1 .1 .1 .0) (o .1) g (now (a .buffer))),
     )
 
 sub-keep : tie.Need-sub-keep
@@ -57,16 +57,16 @@ same-length-5 c = search needs
 
 returns-3 : tie.Need-returns-3
 returns-3 c =
-    let a = c .before .before .before .before .before .before .before .before .before .before .before .before .before .before .args in
+    let a = c .before .before .before .before .before .before .before .before .before .before .before .before .before .before .before .args in
     let r = c .before .before .before .before .before .before .before .before .answer-lines .result in
     let o = c .before .before .before .before .before .before .before .before .answer-lines .ensures in
     let z : a .count ≡ 0 = omega (arith, c .before .before .before .before .before .before .before .before .before .before .if1 .left) in (
-      c .before .before .before .before .before .before .before .before .before .before .before .before .before .before .pre .1,
+      c .before .before .before .before .before .before .before .before .before .before .before .before .before .before .before .pre .1,
       omega arith,
       o .0,
-      λ t l g k f.
-          rw (kept-none l (now (a .buffer)) (a .count) k z)
-          (handled-rest t (now (a .chunk)) (a .from) (a .recipe) r (c .before .before .before .before .before .before .before .before .answer-lines .last .1 .1 .1 .0) (o .1) g (c .before .before .keep .result) (c .before .before .keep .last .0) (c .before .before .before .before .before .if2 .left) (c .before .before .keep .ensures [] (kept-nothing (now (a .buffer))))),
+      λ l line g k f.
+          rw (kept-none line (now (a .buffer)) (a .count) k z)
+          (handled-rest l (now (a .steps)) (now (a .chunk)) (a .from) r (c .before .before .before .before .before .before .before .before .answer-lines .last .1 .1 .1 .0) (o .1) g (c .before .before .keep .result) (c .before .before .keep .last .0) (c .before .before .before .before .before .if2 .left) (c .before .before .keep .ensures [] (kept-nothing (now (a .buffer))))),
     )
 
 pub take-lines-spec : {M : Type 1} → statement M

@@ -5,8 +5,8 @@ use native.Mathlib.Omega.{arith}
 use lib.ListN.{length}
 use denote.Ref.{now}
 use borrow.Author.Needs.{needs}
-use Rattle.stream.specs.Stage.{between}
-use Rattle.stream.proofs.Lines.{plain-join, plain-piece, handled-part, handled-line}
+use Rattle.programs.specs.Stage.{between}
+use Rattle.programs.proofs.FrameLines.{handled-part, handled-line}
 use Rattle.stream.proofs.frames.take_rest.Statement.{statement}
 use Rattle.stream.proofs.frames.take_rest.Tie as tie
 
@@ -30,13 +30,13 @@ same-length c = search needs
 
 returns : tie.Need-returns
 returns c =
-    let a = c .before .before .before .before .before .before .before .before .before .before .args in
+    let a = c .before .before .before .before .before .before .before .before .before .before .before .args in
     let e = c .before .before .before .before .before .before .line-end .result in
     let d = c .before .before .before .before .before .before .line-end .ensures in (
       omega (arith, d .after, c .if1 .taken),
       d .within,
       omega arith,
-      λ t l g k f. handled-part t l (now (a .chunk)) (a .from) e d (c .before .before .before .keep .result) (c .before .before .before .keep .last .0) (c .before .before .before .keep .ensures l k) f,
+      λ l line g k f. handled-part l line (now (a .chunk)) (a .from) e d (c .before .before .before .keep .result) (c .before .before .before .keep .last .0) (c .before .before .before .keep .ensures line k) f,
     )
 
 kept-line-requires : tie.Need-kept-line-requires
@@ -53,16 +53,16 @@ same-length-3 c = search needs
 
 returns-2 : tie.Need-returns-2
 returns-2 c =
-    let a = c .before .before .before .before .before .before .before .before .before .before .before .before .before .before .before .before .before .args in
-    let e = c .before .before .before .before .before .before .before .before .before .before .before .before .before .line-end .result in
-    let d = c .before .before .before .before .before .before .before .before .before .before .before .before .before .line-end .ensures in
-    let h : e < length (now (a .chunk)) = omega (arith, d .within, c .before .before .before .before .before .before .before .if1 .left) in (
+    let a = c .before .before .before .before .before .before .before .before .before .before .before .before .before .before .before .before .args in
+    let e = c .before .before .before .before .before .before .before .before .before .before .before .line-end .result in
+    let d = c .before .before .before .before .before .before .before .before .before .before .before .line-end .ensures in
+    let h : e < length (now (a .chunk)) = omega (arith, d .within, c .before .before .before .before .before .if1 .left) in (
       omega (arith, d .after),
       omega arith,
-      c .before .before .before .before .kept-line .ensures .0,
-      λ t l g k f.
-          handled-line t l (now (a .chunk)) (a .from) e d (c .before .before .before .before .kept-line .last .1 .0) _ h
-          (c .before .before .before .before .kept-line .ensures .1 t (l ++ between (a .from) e (now (a .chunk))) g (c .before .before .before .before .before .before .before .before .before .before .keep .ensures l k) (plain-join l (between (a .from) e (now (a .chunk))) f (plain-piece (now (a .chunk)) (a .from) e d))),
+      omega (arith, c .before .before .kept-line .ensures .0, c .before .before .before .before .before .before .before .before .before .before .before .before .before .before .before .before .pre .2),
+      λ l line g k f.
+          handled-line l line (now (a .chunk)) (a .from) e d (c .before .before .before .before .before .before .before .before .keep .last .0) _ h
+          (c .before .before .kept-line .ensures .1 l (line ++ between (a .from) e (now (a .chunk))) g (c .before .before .before .before .before .before .before .before .keep .ensures line k)),
     )
 
 pub take-rest-spec : {M : Type 1} → statement M

@@ -6,7 +6,7 @@ use Prim.Native.Nat.{_-_}
 use native.Mathlib.Omega.{arith}
 use lib.ListN.{length, getD, take}
 use denote.Ref.{now}
-use Rattle.stream.proofs.Parts.{Taken, taken-none, taken-endless, taken-empty, taken-more, last-none, last-at, not-feed, not-after-feed}
+use Rattle.stream.proofs.Taking.{Taken, taken-none, taken-endless, taken-empty, taken-more, last-none, last-at, not-feed, not-after-feed}
 use Rattle.stream.proofs.head.take_recipe.Statement.{statement}
 use Rattle.stream.proofs.head.take_recipe.Tie as tie
 

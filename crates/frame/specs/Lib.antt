@@ -1,0 +1,2 @@
+-- What the contracts of `frame` cite.
+pub mod Stages

@@ -1,0 +1,10 @@
+-- The laws of `programs`.
+pub mod Answers
+pub mod Pieces
+pub mod FrameLines
+pub mod Parts
+pub mod Laws
+pub mod Sheets
+pub mod Stages
+pub mod Chunks
+pub mod Examples

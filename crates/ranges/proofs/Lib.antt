@@ -1,0 +1,3 @@
+-- The laws of `ranges`.
+pub mod Rules
+pub mod Ends

@@ -1,0 +1,5 @@
+-- The laws of `reader`.
+mod Fields
+mod Steps
+mod Known
+mod Reading

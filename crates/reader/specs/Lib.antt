@@ -1,0 +1,2 @@
+-- What the contracts of `reader` cite beside the definitions of `recipe`.
+pub mod Checks

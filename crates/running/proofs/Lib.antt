@@ -1,0 +1,4 @@
+-- The laws of `running`.
+pub mod Running
+pub mod Calls
+pub mod Promises

@@ -1,0 +1,12 @@
+-- The laws of `semantics`.
+pub mod Lists
+pub mod Filled
+pub mod Rules
+pub mod Refused
+pub mod Worked
+pub mod Numbers
+pub mod Laws
+pub mod Sound
+pub mod Calls
+pub mod SheetLines
+pub mod Vectors

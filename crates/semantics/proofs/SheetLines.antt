@@ -1,0 +1,73 @@
+-- The lines of a sheet: how long they are, one more after others, and how many there are where a sheet passed and there was room for the
+-- longest. Assumes nothing.
+use mathlib.Core.Path.{_≡_, refl, ap, _∙_, sym}
+use mathlib.Core.List.{List, [], _∷_, _++_, append-nil, append-assoc}
+use Prim.Native.Nat.{ℕ, suc, _+_, _*_, _≤_}
+use native.Mathlib.Omega.{arith}
+use lib.ListN.{length, take, drop, length-append}
+use lib.Seq.{take-at, drop-nil}
+use Rattle.hex.proofs.Digits.{length-digits}
+use Rattle.recipe.specs.declared.Step.{Step}
+use Rattle.recipe.specs.Text.{mostSteps}
+use Rattle.semantics.specs.Range.{Range, Ranged, ranged}
+use Rattle.semantics.specs.Range as range
+use Rattle.semantics.specs.Sheet.{Sheet, passed, refused, stepOn, onRanged, sheetLine, longestSheet, sheetFrom, sheetOf, answerOf, lineOf, linesFrom, bytesOf}
+use Rattle.semantics.proofs.Sound.Kept.{never}
+use Rattle.semantics.proofs.Calls.{sheet-passes-no-other}
+
+-- ---- a line, and line after line
+
+pub length-line : (k : ℕ) (r : Range) → length (lineOf k r) ≡ sheetLine
+length-line k r = simp (length-append, length-digits)
+
+pub length-lines : (k : ℕ) (l : List Range) → length (linesFrom k l) ≡ length l * sheetLine
+unfolding linesFrom
+length-lines k [] = refl
+length-lines k (r ∷ l) = length-append (lineOf k r) (linesFrom (suc k) l) ∙ omega (arith, length-line k r, length-lines (suc k) l)
+
+pub lines-more : (k : ℕ) (l : List Range) (r : Range) → linesFrom k (l ++ (r ∷ [])) ≡ linesFrom k l ++ lineOf (k + length l) r
+unfolding linesFrom
+lines-more k [] r = let e : k + 0 ≡ k = omega arith in rw e (append-nil (lineOf k r))
+lines-more k (q ∷ l) r =
+    let e : k + suc (length l) ≡ suc k + length l = omega arith in
+    ap (λ (x : List ℕ). lineOf k q ++ x) (lines-more (suc k) l r)
+    ∙ sym (append-assoc (lineOf k q) (linesFrom (suc k) l) (lineOf (suc k + length l) r))
+    ∙ rw e
+
+-- ---- a line a step
+
+by-ranged : (t : Step) (ts : List Step) (k : ℕ) (l r : List Range)
+    → ((x : Range) → sheetFrom ts (suc k) (l ++ (x ∷ [])) ≡ passed r → length r ≡ length (l ++ (x ∷ [])) + length ts)
+    → (o : Ranged) → onRanged o k (λ x. sheetFrom ts (suc k) (l ++ (x ∷ []))) ≡ passed r → length r ≡ length l + length (t ∷ ts)
+unfolding onRanged
+by-ranged t ts k l r more (ranged x) e = let f = more x e in let g : length (l ++ (x ∷ [])) ≡ length l + 1 = length-append l (x ∷ []) in omega arith
+by-ranged t ts k l r more (range.refused number) e = never (cc)
+
+from-length : (ts : List Step) (k : ℕ) (l r : List Range) → sheetFrom ts k l ≡ passed r → length r ≡ length l + length ts
+unfolding sheetFrom
+from-length [] k l r e = let q : l ≡ r = cc in ap length (sym q) ∙ omega arith
+from-length (t ∷ ts) k l r e = by-ranged t ts k l r (λ x h. from-length ts (suc k) (l ++ (x ∷ [])) r h) (stepOn t l) e
+
+few : (t : List ℕ) (r : List Range) → sheetOf t longestSheet ≡ passed r → length r ≤ mostSteps
+few t r h =
+    let s = sheet-passes-no-other t longestSheet r h in
+    let f = from-length (s .list) 0 [] r (s .passes) in
+    omega (arith, s .fits)
+
+-- ---- the sheet
+
+pub record Passed (x : Sheet) : Type 0 where
+  pub few : answerOf x .steps ≤ mostSteps
+  pub lines : (lent : List ℕ) → take (answerOf x .steps * sheetLine) (bytesOf x lent) ≡ bytesOf x []
+
+passed-by : (x : Sheet) → ((r : List Range) → x ≡ passed r → length r ≤ mostSteps) → Passed x
+passed-by (passed r) h =
+    record {
+      few = h r refl;
+      lines = λ lent. take-at (linesFrom 0 r) (drop (sheetLine * length r) lent) (length r * sheetLine) (length-lines 0 r) ∙ sym (ap (λ (x : List ℕ). linesFrom 0 r ++ x) (drop-nil (sheetLine * length r)) ∙ append-nil (linesFrom 0 r));
+    }
+passed-by (refused number k) h = record { few = omega arith; lines = λ lent. refl }
+
+-- what a sheet call that was lent room for the longest sheet writes where it refuses nothing: its lines, and no more than the most
+pub sheet-passed : (t : List ℕ) → Passed (sheetOf t longestSheet)
+sheet-passed t = passed-by (sheetOf t longestSheet) (few t)

@@ -1,0 +1,126 @@
+-- A step's range has the step's kind, and so has every value that lies in it. Assumes nothing.
+use mathlib.Core.Path.{_≡_, refl, sym, ap, _∙_}
+use mathlib.Core.Bool.{Bool, true, false, not, _&&_, _||_, cond}
+use mathlib.Core.Logic.{⊎-elim}
+use Prim.Native.Nat.{ℕ, _^_, _<_, _≤_}
+use native.Mathlib.Omega.{arith}
+use lib.Dec.{eqb, leb}
+use lib.IntN.{ℤ, natAbs, _+ℤ_, _-ℤ_}
+use Rattle.float_format.specs.Format.{binary64}
+use Rattle.float_format.specs.Rounding.{lroundRefusal}
+use Rattle.float_format.proofs.Units.{lt-or-ge}
+use Rattle.scaling.specs.Scaling.{ldexpRefusal}
+use Rattle.recipe.specs.declared.Kind.{Kind}
+use Rattle.recipe.specs.declared.Kind.the-variants.{Double, Whole}
+use Rattle.recipe.specs.declared.Row.the-variants.{Unknown}
+use Rattle.recipe.specs.declared.Step.{Step}
+use Rattle.recipe.specs.Table.{rowOf, answerKind}
+use Rattle.recipe.specs.Text.{isUnknown}
+use Rattle.recipe.specs.Text as text
+use Rattle.recipe.proofs.Rows.{before-10, before-20, before-30, after-32}
+use Rattle.semantics.specs.Value.{Datum, double, whole, fitsWord}
+use Rattle.semantics.specs.Value as value
+use Rattle.semantics.specs.Range.{Range, doubles, wholes, low, high, least, most, isNegative, isPositive, absoluteRange, lroundRange, holdsZero, infiniteEnd, fmodRange, lowPower, highPower, ldexpRange, wholeRange, doubleRange, Ranged, ranged, rangeRule, stepRange}
+use Rattle.semantics.specs.Range as range
+use Rattle.semantics.specs.Promise.{Lies}
+use Rattle.semantics.proofs.Rules.{Unlisted}
+use Rattle.semantics.proofs.Sound.Kept.{never}
+use Rattle.semantics.proofs.Sound.Steps.{at}
+
+-- a value that lies in a range has its kind
+pub lies-kind : (r : Range) (v : Datum) → Lies r v → value.kindOf v ≡ range.kindOf r
+unfolding Lies
+lies-kind (doubles l h) (double x) g = refl
+lies-kind (doubles l h) (whole z) g = absurd g
+lies-kind (wholes l h) (double x) g = absurd g
+lies-kind (wholes l h) (whole z) g = refl
+
+-- ---- what the range rules give
+
+abbrev pub HasKind : Kind → Ranged → Type 0
+HasKind k (ranged r) = range.kindOf r ≡ k
+HasKind k (range.refused number) = Unit {0}
+
+either : (k : Kind) (b : Bool) (x y : Ranged) → HasKind k x → HasKind k y → HasKind k (cond b x y)
+either k true x y p q = p
+either k false x y p q = q
+
+three : (s t : Bool) (a b c d e f : ℕ) → range.kindOf (cond s (cond t (doubles a b) (doubles c d)) (doubles e f)) ≡ Double
+three true true a b c d e f = refl
+three true false a b c d e f = refl
+three false t a b c d e f = refl
+
+-- an opcode that the table does not have
+past : (k c : ℕ) → c ≤ k → (k ≡ c → ⊥) → c < k
+past k c l n = omega arith
+
+unlisted-row : (k : ℕ) → Unlisted k → rowOf k ≡ Unknown
+unlisted-row k h =
+    ⊎-elim (λ l. before-10 k l (h .0 .0 .0 .0 .0 .0 .0 .0 .0 .0 .0 .0 .0 .0 .0 .0 .0 .0 .0 .1) (h .0 .0 .0 .0 .0 .0 .0 .0 .0 .0 .0 .0 .0 .0 .0 .0 .0 .0 .1) (h .0 .0 .0 .0 .0 .0 .0 .0 .0 .0 .0 .0 .0 .0 .0 .0 .0 .1) (h .0 .0 .0 .0 .0 .0 .0 .0 .0 .0 .0 .0 .0 .0 .0 .0 .1))
+    (λ g. ⊎-elim (λ l. before-20 k (from-16 g) l) (λ g. ⊎-elim (λ l. before-30 k (from-32 g) l) (λ g. after-32 k (from-48 g)) (lt-or-ge k 0x30)) (lt-or-ge k 0x20))
+    (lt-or-ge k 0x10)
+  where
+    from-16 : 0x10 ≤ k → 0x18 < k
+    from-16 g = past k 24 (past k 23 (past k 22 (past k 21 (past k 20 (past k 19 (past k 18 (past k 17 (past k 16 g (h .0 .0 .0 .0 .0 .0 .0 .0 .0 .0 .0 .0 .0 .0 .0 .1)) (h .0 .0 .0 .0 .0 .0 .0 .0 .0 .0 .0 .0 .0 .0 .1)) (h .0 .0 .0 .0 .0 .0 .0 .0 .0 .0 .0 .0 .0 .1)) (h .0 .0 .0 .0 .0 .0 .0 .0 .0 .0 .0 .0 .1)) (h .0 .0 .0 .0 .0 .0 .0 .0 .0 .0 .0 .1)) (h .0 .0 .0 .0 .0 .0 .0 .0 .0 .0 .1)) (h .0 .0 .0 .0 .0 .0 .0 .0 .0 .1)) (h .0 .0 .0 .0 .0 .0 .0 .0 .1)) (h .0 .0 .0 .0 .0 .0 .0 .1)
+
+    from-32 : 0x20 ≤ k → 0x23 < k
+    from-32 g = past k 35 (past k 34 (past k 33 (past k 32 g (h .0 .0 .0 .0 .0 .0 .1)) (h .0 .0 .0 .0 .0 .1)) (h .0 .0 .0 .0 .1)) (h .0 .0 .0 .1)
+
+    from-48 : 0x30 ≤ k → 0x32 < k
+    from-48 g = past k 50 (past k 49 (past k 48 g (h .0 .0 .1)) (h .0 .1)) (h .1)
+
+module _ (p q : ℕ) (a b : Range) where
+  abbrev Good : ℕ → Type 0
+  Good k = isUnknown (rowOf k) ≡ false → HasKind (answerKind (rowOf k)) (rangeRule k p q a b)
+
+  lround-kind : HasKind Whole (lroundRange a)
+  lround-kind = either Whole (eqb (lroundRefusal binary64 (low a)) 0 && eqb (lroundRefusal binary64 (high a)) 0) _ (range.refused 21) refl tt
+
+  fmod-kind : HasKind Double (fmodRange a b)
+  fmod-kind = either Double (infiniteEnd a || holdsZero b) (range.refused 20) _ tt refl
+
+  ldexp-kind : HasKind Double (ldexpRange a b)
+  ldexp-kind =
+      either Double (infiniteEnd a || not (eqb (ldexpRefusal binary64 (low a) (lowPower a b)) 0) || not (eqb (ldexpRefusal binary64 (high a) (highPower a b)) 0)) (range.refused 21) _ tt refl
+
+  whole-kind : (l h : ℤ) → HasKind Whole (wholeRange l h)
+  whole-kind l h = either Whole (fitsWord l && fitsWord h) _ (range.refused 21) refl tt
+
+  double-kind : HasKind Double (doubleRange a)
+  double-kind = either Double (leb (natAbs (least a)) (2 ^ 53) && leb (natAbs (most a)) (2 ^ 53)) _ (range.refused 22) refl tt
+
+  absolute-kind : HasKind Double (ranged (absoluteRange a))
+  absolute-kind = three (isNegative (low a)) (isPositive (high a)) _ _ _ _ _ _
+
+  good-other : (k : ℕ) → Unlisted k → Good k
+  good-other k h e = never (sym (ap isUnknown (unlisted-row k h)) ∙ e)
+
+  pub rule-kind : (k : ℕ) → Good k
+  unfolding rangeRule rowOf
+  rule-kind k =
+      at Good k 0x01 (λ e. refl) (λ n1.
+      at Good k 0x02 (λ e. refl) (λ n2.
+      at Good k 0x03 (λ e. refl) (λ n3.
+      at Good k 0x04 (λ e. refl) (λ n4.
+      at Good k 0x10 (λ e. refl) (λ n5.
+      at Good k 0x11 (λ e. refl) (λ n6.
+      at Good k 0x12 (λ e. refl) (λ n7.
+      at Good k 0x13 (λ e. refl) (λ n8.
+      at Good k 0x14 (λ e. refl) (λ n9.
+      at Good k 0x15 (λ e. refl) (λ n10.
+      at Good k 0x16 (λ e. absolute-kind) (λ n11.
+      at Good k 0x17 (λ e. refl) (λ n12.
+      at Good k 0x18 (λ e. lround-kind) (λ n13.
+      at Good k 0x20 (λ e. refl) (λ n14.
+      at Good k 0x21 (λ e. refl) (λ n15.
+      at Good k 0x22 (λ e. fmod-kind) (λ n16.
+      at Good k 0x23 (λ e. ldexp-kind) (λ n17.
+      at Good k 0x30 (λ e. whole-kind (least a +ℤ least b) (most a +ℤ most b)) (λ n18.
+      at Good k 0x31 (λ e. whole-kind (least a -ℤ most b) (most a -ℤ least b)) (λ n19.
+      at Good k 0x32 (λ e. double-kind) (λ n20.
+      good-other k ((((((((((((((((((((tt, n1), n2), n3), n4), n5), n6), n7), n8), n9), n10), n11), n12), n13), n14), n15), n16), n17), n18), n19), n20)))))))))))))))))))))
+
+-- a range of a step that the table has, has the step's kind
+pub step-kind : (t : Step) (a b : Range) → isUnknown (rowOf (t .opcode)) ≡ false → HasKind (text.kindOf t) (stepRange t a b)
+unfolding stepRange
+step-kind t a b e = rule-kind (t .p) (t .q) a b (t .opcode) e

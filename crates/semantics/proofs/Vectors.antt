@@ -1,0 +1,135 @@
+-- Document 01's recipe with its whole sheet and its two frames, and the range rules at their corners, by the definitions: claims that antt
+-- computes. Assumes nothing.
+use mathlib.Core.Path.{_≡_, refl}
+use mathlib.Core.List.{List, [], _∷_, _++_, map}
+use Prim.Native.Nat.{ℕ}
+use lib.Ieee.{size, span, climb}
+use lib.IntN.{pos, negsuc}
+use Rattle.float_format.specs.Format.{isNan, isInfinite, isZero, quieted, absolute, negated}
+use Rattle.float_format.specs.Number.{magnitude, encode, above, under}
+use Rattle.float_format.specs.Rounding.{parts, wholePart, integral, lroundRefusal, lroundValue}
+use Rattle.ordering.specs.Ordering.{fmin, fmax}
+use Rattle.scaling.specs.Scaling.{nearest, scaled, ldexp, ldexpRefusal}
+use Rattle.hex.specs.Hex.{digits, fieldOf, digitOf}
+use Rattle.recipe.specs.Table.{rowOf}
+use Rattle.recipe.specs.Text.{readText, readFrom, onNext, nextOf, judged, stepRefusal, inputsIn, lineAt, fromFields}
+use Rattle.recipe.proofs.Examples.{bytes, lines}
+use Rattle.semantics.specs.Value.{ruleOf, stepValue}
+use Rattle.semantics.specs.Range.{Range, doubles, wholes, Ranged, ranged, refused, rangeRule, stepRange}
+use Rattle.semantics.specs.Frame.{onField, onWords, wordsFrom, readFrame}
+use Rattle.semantics.specs.Frame as frame
+use Rattle.semantics.specs.Run.{onOutcome, runFrom, onFrame, runSteps, runOf, answerOf}
+use Rattle.semantics.specs.Run as run
+use Rattle.semantics.specs.Sheet.{onRanged, sheetFrom, sheetSteps, onText, sheetOf, linesFrom, bytesOf}
+
+-- ---- document 01's recipe: floor of an input, then lround
+
+pub recipe : List ℕ
+recipe = lines ("010000c004000000000000401d000000000000" ∷ "10000000000000000000000000000000000000" ∷ "18010000000000000000000000000000000000" ∷ [])
+
+-- its sheet, and a byte past it that stays as lent
+pub sheet-example : bytesOf (sheetOf recipe 112) (lines ("" ∷ []) ++ recipe)
+    ≡ lines ("0001c004000000000000401d000000000000" ∷ "0101c008000000000000401c000000000000" ∷ "0202fffffffffffffffd0000000000000007" ∷ []) ++ bytes "000000\n"
+unfolding recipe bytes lines readText readFrom onNext nextOf judged stepRefusal inputsIn lineAt fromFields rowOf fieldOf digitOf isNan above under magnitude sheetOf onText sheetSteps sheetFrom onRanged stepRange rangeRule linesFrom digits integral parts wholePart lroundRefusal lroundValue encode isInfinite isZero quieted size span climb
+sheet-example = refl
+
+-- its frames: -0.5 gives -1, a whole number; 7.5 is refused 32 at step 0
+pub run-example : answerOf (runOf recipe (bytes "bfe0000000000000") 3) ≡ record { refusal = 0; place = 0; kind = 2; word = 0xffff_ffff_ffff_ffff }
+unfolding recipe bytes lines readText readFrom onNext nextOf judged stepRefusal inputsIn lineAt fromFields rowOf fieldOf digitOf isNan above under magnitude runOf run.onText runSteps onFrame readFrame onWords wordsFrom onField frame.ranged runFrom onOutcome stepValue ruleOf integral parts wholePart lroundRefusal lroundValue encode isInfinite isZero quieted size span climb
+run-example = refl
+
+pub refused-example : answerOf (runOf recipe (bytes "401e000000000000") 3) ≡ record { refusal = 32; place = 0; kind = 0; word = 0 }
+unfolding recipe bytes lines readText readFrom onNext nextOf judged stepRefusal inputsIn lineAt fromFields rowOf fieldOf digitOf isNan above under magnitude runOf run.onText runSteps onFrame readFrame onWords wordsFrom onField frame.ranged
+refused-example = refl
+
+-- ---- the range rules at their corners
+
+pub record Case : Type 0 where
+  pub given : Ranged
+  pub stated : Ranged
+
+infix 5 _gives_
+abbrev pub _gives_ : Ranged → Ranged → Case
+a gives b = record { given = a; stated = b }
+
+-- a rule of one range, and of two
+abbrev of : ℕ → Range → Ranged
+of opcode a = rangeRule opcode 0 0 a (wholes (pos 0) (pos 0))
+
+abbrev of-two : ℕ → Range → Range → Ranged
+of-two opcode a b = rangeRule opcode 0 0 a b
+
+-- -2, -1, 1, 2, -0, the infinities, 1 - 2^-53 and its negation
+abbrev m2 : ℕ
+m2 = 0xc000_0000_0000_0000
+
+abbrev m1 : ℕ
+m1 = 0xbff0_0000_0000_0000
+
+abbrev p1 : ℕ
+p1 = 0x3ff0_0000_0000_0000
+
+abbrev p2 : ℕ
+p2 = 0x4000_0000_0000_0000
+
+abbrev m0 : ℕ
+m0 = 0x8000_0000_0000_0000
+
+abbrev mInf : ℕ
+mInf = 0xfff0_0000_0000_0000
+
+abbrev pInf : ℕ
+pInf = 0x7ff0_0000_0000_0000
+
+abbrev pUnder : ℕ
+pUnder = 0x3fef_ffff_ffff_ffff
+
+abbrev mUnder : ℕ
+mUnder = 0xbfef_ffff_ffff_ffff
+
+pub corners : List Case
+corners =
+    -- modf's fraction: past one the number next to it; at one too; a zero end is +0
+    (of 0x15 (doubles m2 p2) gives ranged (doubles mUnder pUnder))
+    ∷ (of 0x15 (doubles m1 p1) gives ranged (doubles mUnder pUnder))
+    ∷ (of 0x15 (doubles mUnder pUnder) gives ranged (doubles mUnder pUnder))
+    ∷ (of 0x15 (doubles m0 m0) gives ranged (doubles 0 0))
+    ∷ (of 0x15 (doubles mInf m1) gives ranged (doubles mUnder 0))
+    -- fabs: both ends, swapped ends, +0 to the larger; -0 is not below zero
+    ∷ (of 0x16 (doubles p1 p2) gives ranged (doubles p1 p2))
+    ∷ (of 0x16 (doubles m2 m1) gives ranged (doubles p1 p2))
+    ∷ (of 0x16 (doubles m2 p1) gives ranged (doubles 0 p2))
+    ∷ (of 0x16 (doubles m0 p1) gives ranged (doubles 0 p1))
+    ∷ (of 0x16 (doubles m1 m0) gives ranged (doubles 0 p1))
+    -- negate
+    ∷ (of 0x17 (doubles m2 p1) gives ranged (doubles m1 p2))
+    ∷ (of 0x17 (doubles 0 pInf) gives ranged (doubles mInf m0))
+    -- lround: halves away from zero at both ends; 2^63 has no 64 bits, -2^63 has
+    ∷ (of 0x18 (doubles 0xbfe0_0000_0000_0000 0x3fe0_0000_0000_0000) gives ranged (wholes (negsuc 0) (pos 1)))
+    ∷ (of 0x18 (doubles 0 0x43e0_0000_0000_0000) gives refused 21)
+    ∷ (of 0x18 (doubles 0xc3e0_0000_0000_0000 0) gives ranged (wholes (negsuc 0x7fff_ffff_ffff_ffff) (pos 0)))
+    ∷ (of 0x18 (doubles 0 pInf) gives refused 21)
+    -- fmod: by 1 to 2 below 2; what is smaller than the divisor stays; a divisor's range that ends at a zero, or goes across it; an infinite end
+    ∷ (of-two 0x22 (doubles mInf p1) (doubles p1 p2) gives refused 20)
+    ∷ (of-two 0x22 (doubles m2 p1) (doubles p1 p2) gives ranged (doubles m2 p1))
+    ∷ (of-two 0x22 (doubles 0xc059_0000_0000_0000 0x4059_0000_0000_0000) (doubles m2 m1) gives ranged (doubles m2 p2))
+    ∷ (of-two 0x22 (doubles p1 p2) (doubles p1 pInf) gives ranged (doubles 0 p2))
+    ∷ (of-two 0x22 (doubles p1 p2) (doubles m1 p1) gives refused 20)
+    ∷ (of-two 0x22 (doubles p1 p2) (doubles 0 p1) gives refused 20)
+    ∷ (of-two 0x22 (doubles p1 p2) (doubles m1 m0) gives refused 20)
+    -- ldexp: away from zero by the most, towards it by the least; refused where an end overflows or is infinite
+    ∷ (of-two 0x23 (doubles m1 p1) (wholes (pos 0) (pos 1)) gives ranged (doubles m2 p2))
+    ∷ (of-two 0x23 (doubles p1 p2) (wholes (negsuc 0) (pos 0)) gives ranged (doubles 0x3fe0_0000_0000_0000 p2))
+    ∷ (of-two 0x23 (doubles p1 p1) (wholes (pos 0) (pos 1024)) gives refused 21)
+    ∷ (of-two 0x23 (doubles p1 pInf) (wholes (negsuc 0) (pos 0)) gives refused 21)
+    -- whole sums and differences; 2^53 and one past it as doubles
+    ∷ (of-two 0x30 (wholes (negsuc 2) (pos 5)) (wholes (pos 1) (pos 2)) gives ranged (wholes (negsuc 1) (pos 7)))
+    ∷ (of-two 0x30 (wholes (pos 0) (pos 0x7fff_ffff_ffff_ffff)) (wholes (pos 0) (pos 1)) gives refused 21)
+    ∷ (of-two 0x31 (wholes (pos 0) (pos 5)) (wholes (pos 0) (pos 5)) gives ranged (wholes (negsuc 4) (pos 5)))
+    ∷ (of 0x32 (wholes (negsuc 0) (pos 0x20_0000_0000_0000)) gives ranged (doubles m1 0x4340_0000_0000_0000))
+    ∷ (of 0x32 (wholes (pos 0) (pos 0x20_0000_0000_0001)) gives refused 22)
+    ∷ []
+
+pub range-corners : map (λ (c : Case). c .given) corners ≡ map (λ (c : Case). c .stated) corners
+unfolding corners rangeRule integral parts wholePart lroundRefusal lroundValue fmin fmax nearest scaled ldexp ldexpRefusal isNan isInfinite isZero quieted absolute negated magnitude encode above under size span climb
+range-corners = refl

@@ -1,0 +1,8 @@
+-- What the contracts of `semantics` cite.
+pub mod Value
+pub mod Frame
+pub mod Run
+pub mod Range
+pub mod Sheet
+pub mod Promise
+pub mod Packed

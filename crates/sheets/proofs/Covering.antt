@@ -1,0 +1,82 @@
+-- The sheet as floats carry it is the sheet: of steps that were read no range has an end that is a NaN. Each step's range holds some value,
+-- as the sheet's promise says of the values before it, and a range that holds a value is one of numbers. Assumes nothing.
+use mathlib.Core.Path.{_≡_, refl}
+use mathlib.Core.Bool.{_||_, false}
+use mathlib.Core.List.{List, [], _∷_, _++_}
+use Prim.Native.Nat.{ℕ, suc, _+_}
+use native.Mathlib.Omega.{arith}
+use lib.ListN.{getD}
+use mir.Syntax.{w64}
+use mir.Val.{toZ}
+use borrow.Author.Tests.{le-ltb}
+use Rattle.float_format.specs.Format.{binary64, isNan}
+use Rattle.float_format.specs.Number.{above, under}
+use Rattle.recipe.specs.declared.Kind.the-variants.{Double, Whole}
+use Rattle.recipe.specs.declared.Row.{Row}
+use Rattle.recipe.specs.declared.Row.the-variants.{Unknown, Input, Constant, Unary, Binary}
+use Rattle.recipe.specs.declared.Step.{Step}
+use Rattle.recipe.specs.Table.{rowOf}
+use Rattle.recipe.specs.Text.{first, second, badRange, doubleAbove}
+use Rattle.semantics.specs.Value.{Datum, Outcome, stepValue}
+use Rattle.semantics.specs.Range.{Range, doubles, wholes, Ranged, ranged}
+use Rattle.semantics.specs.Range as range
+use Rattle.semantics.specs.Frame.{outside}
+use Rattle.semantics.specs.Run.{noValue}
+use Rattle.semantics.specs.Sheet.{noRange, stepOn, onRanged, sheetFrom}
+use Rattle.semantics.specs.Promise.{Lies, Proper}
+use Rattle.ranges.specs.Carried.{number, carriedRange, carried, carriedFrom}
+use Rattle.semantics.proofs.Sound.Kept.{Kept, no-or}
+use Rattle.semantics.proofs.Sound.Inputs.{whole-constant}
+use Rattle.semantics.proofs.Sound.Steps.{step-kept}
+use Rattle.semantics.proofs.Sound.Recipes.{Covers, covers-none, covers-more, Declared}
+
+-- ---- a declared range holds its low end
+
+not-above : (p : ℕ) → doubleAbove p p ≡ false
+not-above p = le-ltb (above binary64 p + under binary64 p) (above binary64 p + under binary64 p) (omega arith)
+
+low-inside : (r : Row) (t : Step) → badRange r t ≡ false → outside r t (t .p) ≡ false
+low-inside Unknown t e = refl
+low-inside (Input Double) t e =
+    let a = no-or (isNan binary64 (t .p) || isNan binary64 (t .q)) (doubleAbove (t .p) (t .q)) e in
+    let b = no-or (isNan binary64 (t .p)) (isNan binary64 (t .q)) (a .0) in
+    rw (b .0, not-above (t .p), a .1)
+low-inside (Input Whole) t e = rw (whole-constant (toZ w64 (t .p)) .from, e)
+low-inside (Constant k) t e = refl
+low-inside (Unary a k) t e = refl
+low-inside (Binary a b k) t e = refl
+
+-- ---- a range of numbers is carried as it is
+
+carried-proper : (r : Range) → Proper r → carriedRange r ≡ r
+unfolding Proper
+carried-proper (doubles l h) p = rw (p .0, p .1)
+carried-proper (wholes l h) p = refl
+
+-- ---- the fold
+
+-- values that lie in the ranges
+pub record Covered (rs : List Range) : Type 0 where
+  pub values : List Datum
+  pub covers : Covers rs values
+
+next : (ts : List Step) (k : ℕ) (rs : List Range) (R : Ranged) (o : Outcome) → Kept R o
+    → ((r : Range) (v : Datum) → Lies r v → Proper r → carriedFrom ts (suc k) (rs ++ (r ∷ [])) ≡ sheetFrom ts (suc k) (rs ++ (r ∷ [])))
+    → onRanged (carried R) k (λ r. carriedFrom ts (suc k) (rs ++ (r ∷ []))) ≡ onRanged R k (λ r. sheetFrom ts (suc k) (rs ++ (r ∷ [])))
+unfolding onRanged
+next ts k rs (ranged r) o h more = rw (carried-proper r (h .proper)) (more r (h .value) (h .lies) (h .proper))
+next ts k rs (range.refused number) o h more = refl
+
+same-from : (ls : List Step) (k : ℕ) (rs : List Range) → Declared ls → Covered rs → carriedFrom ls k rs ≡ sheetFrom ls k rs
+unfolding carriedFrom sheetFrom
+same-from [] k rs d c = refl
+same-from (t ∷ ts) k rs d c =
+    let v = c .covers in
+    let b : badRange (rowOf (t .opcode)) t ≡ false = d 0 (omega arith) in
+    next ts k rs (stepOn t rs) (stepValue t (t .p) (getD (c .values) (first t) noValue) (getD (c .values) (second t) noValue))
+    (step-kept t (t .p) (getD rs (first t) noRange) (getD rs (second t) noRange) (getD (c .values) (first t) noValue) (getD (c .values) (second t) noValue)
+    (v .lie (first t)) (v .lie (second t)) (v .proper (first t)) (v .proper (second t)) b (low-inside (rowOf (t .opcode)) t b))
+    (λ r w l p. same-from ts (suc k) (rs ++ (r ∷ [])) (λ m h. d (suc m) (omega arith)) (record { values = c .values ++ (w ∷ []); covers = covers-more v r w l p }))
+
+pub carried-same : (ls : List Step) → Declared ls → carriedFrom ls 0 [] ≡ sheetFrom ls 0 []
+carried-same ls d = same-from ls 0 [] d (record { values = []; covers = covers-none })

@@ -1,0 +1,207 @@
+-- `write_sheet` meets its contract. The first loop's invariant is `Showing.Shown`: the sheet comes to what is left of it after the ranges so far.
+-- The second loop's: the bytes so far are the lines of the first j ranges, and the rest as lent. The measures are the steps left. Assumes
+-- nothing.
+use mathlib.Core.Path.{_≡_, refl, _∙_}
+use mathlib.Core.List.{map}
+use Prim.Native.Nat.{_+_, _-_, _*_, _≤_}
+use native.Mathlib.Omega.{arith}
+use lib.Ieee.{nan}
+use lib.ListN.{length, take, length-map}
+use lib.Seq.{length-take-le}
+use denote.Ref.{now}
+use borrow.Author.Needs.{needs}
+use Rattle.semantics.specs.Sheet.{sheetLine}
+use Rattle.ranges.specs.declared.Range.the-variants.{Doubles}
+use Rattle.ranges.specs.Seen.{seenRange}
+use Rattle.sheets.proofs.Showing.{Shown, shown-start, shown-more, shown-refused, shown-done, fetch-real, lines, lines-none, lines-length, lines-next, all-lines}
+use Rattle.sheets.proofs.write_sheet.Statement.{statement}
+use Rattle.sheets.proofs.write_sheet.Tie as tie
+
+abbrev Inv-loop : tie.InvT-loop
+Inv-loop steps n bytes ranges₀ i₀ ranges i = Shown steps n ranges i
+
+abbrev μ-loop : tie.MeasureT-loop
+μ-loop steps n bytes ranges₀ i₀ ranges i = n - i
+
+abbrev Inv-loop2 : tie.InvT-loop2
+Inv-loop2 steps n bytes₀ ranges i j₀ bytes j = (j ≤ n) × (bytes ≡ lines ranges j bytes₀)
+
+abbrev μ-loop2 : tie.MeasureT-loop2
+μ-loop2 steps n bytes₀ ranges i j₀ bytes j = n - j
+
+loop-holds : tie.Need-loop-holds Inv-loop μ-loop Inv-loop2 μ-loop2
+loop-holds c = let a = c .before .before .args in shown-start (now (a .steps)) (a .n)
+
+step-at-requires : tie.Need-step-at-requires Inv-loop μ-loop Inv-loop2 μ-loop2
+step-at-requires c κs = omega arith
+
+place-of-requires : tie.Need-place-of-requires Inv-loop μ-loop Inv-loop2 μ-loop2
+place-of-requires c κs = tt
+
+place-of-requires-2 : tie.Need-place-of-requires-2 Inv-loop μ-loop Inv-loop2 μ-loop2
+place-of-requires-2 c κs = tt
+
+mul-a : tie.Need-mul-a Inv-loop μ-loop Inv-loop2 μ-loop2
+mul-a c = omega (arith, c .before .place-of .ensures .1)
+
+array-copy-out-a : tie.Need-array-copy-out-a Inv-loop μ-loop Inv-loop2 μ-loop2
+array-copy-out-a c = omega (arith, c .before .place-of .ensures .1)
+
+mul-b : tie.Need-mul-b Inv-loop μ-loop Inv-loop2 μ-loop2
+mul-b c = omega (arith, c .before .place-of2 .ensures .1)
+
+array-copy-out-b : tie.Need-array-copy-out-b Inv-loop μ-loop Inv-loop2 μ-loop2
+array-copy-out-b c = omega (arith, c .before .place-of2 .ensures .1)
+
+step-range-requires : tie.Need-step-range-requires Inv-loop μ-loop Inv-loop2 μ-loop2
+step-range-requires c κs =
+    let a = c .before .before .before .before .before .before .before .before .before .args in
+    let l = c .before .before .before .before .before .before .loop in (
+      fetch-real (now (a .steps)) (a .n) (l .ranges) (l .i) (l .inv) _ _ (omega (arith, c .before .before .before .place-of .ensures .1)),
+      fetch-real (now (a .steps)) (a .n) (l .ranges) (l .i) (l .inv) _ _ (omega (arith, c .before .before .place-of2 .ensures .1)),
+    )
+
+enum-known-r : tie.Need-enum-known-r Inv-loop μ-loop Inv-loop2 μ-loop2
+enum-known-r c = search needs
+
+enum-known-number : tie.Need-enum-known-number Inv-loop μ-loop Inv-loop2 μ-loop2
+enum-known-number c = search needs
+
+turned-down-requires : tie.Need-turned-down-requires Inv-loop μ-loop Inv-loop2 μ-loop2
+turned-down-requires c κs = tt
+
+returns : tie.Need-returns Inv-loop μ-loop Inv-loop2 μ-loop2
+returns c =
+    let a = c .before .before .before .before .before .before .before .before .before .before .before .before .before .before .args in
+    let l = c .before .before .before .before .before .before .before .before .before .before .before .loop in
+    rw (
+    shown-refused (now (a .steps)) (a .n) (l .ranges) (l .i) (l .inv) (omega arith) (omega arith) _ (c .before .before .before .before .before .before .before .before .before .step-at .ensures) _ _ (Doubles (record { low = nan; high = nan }))
+    (c .before .before .before .before .before .before .before .before .place-of .ensures .0) (c .before .before .before .before .before .before .before .place-of2 .ensures .0) _ (c .before .before .before .before .step-range .ensures .0) _ (c .before .before .number .given .1)) (c .turned-down .ensures, refl)
+
+mul-ranges : tie.Need-mul-ranges Inv-loop μ-loop Inv-loop2 μ-loop2
+mul-ranges c = omega arith
+
+array-set-from-ranges : tie.Need-array-set-from-ranges Inv-loop μ-loop Inv-loop2 μ-loop2
+array-set-from-ranges c = omega arith
+
+add-i : tie.Need-add-i Inv-loop μ-loop Inv-loop2 μ-loop2
+add-i c = omega arith
+
+loop-less : tie.Need-loop-less Inv-loop μ-loop Inv-loop2 μ-loop2
+loop-less c = omega arith
+
+loop-again : tie.Need-loop-again Inv-loop μ-loop Inv-loop2 μ-loop2
+loop-again c =
+    let a = c .before .before .before .before .before .before .before .before .before .before .before .before .before .args in
+    let l = c .before .before .before .before .before .before .before .before .before .before .loop in
+    shown-more (now (a .steps)) (a .n) (l .ranges) (l .i) (l .inv) (omega arith) (omega arith) _ (c .before .before .before .before .before .before .before .before .step-at .ensures) _ _ (Doubles (record { low = nan; high = nan }))
+    (c .before .before .before .before .before .before .before .place-of .ensures .0) (c .before .before .before .before .before .before .place-of2 .ensures .0) _ (c .before .before .before .step-range .ensures .0) _ (c .before .r .given .1) (c .before .before .before .step-range .ensures .1)
+
+loop2-holds : tie.Need-loop2-holds Inv-loop μ-loop Inv-loop2 μ-loop2
+loop2-holds c = (omega arith, lines-none (c .before .loop .ranges) (now (c .before .before .before .before .args .bytes)))
+
+mul-r : tie.Need-mul-r Inv-loop μ-loop Inv-loop2 μ-loop2
+mul-r c = omega arith
+
+array-copy-out-r : tie.Need-array-copy-out-r Inv-loop μ-loop Inv-loop2 μ-loop2
+array-copy-out-r c = omega arith
+
+mul-at : tie.Need-mul-at Inv-loop μ-loop Inv-loop2 μ-loop2
+mul-at c = omega arith
+
+add-write-line : tie.Need-add-write-line Inv-loop μ-loop Inv-loop2 μ-loop2
+add-write-line c = omega arith
+
+sub-write-line : tie.Need-sub-write-line Inv-loop μ-loop Inv-loop2 μ-loop2
+sub-write-line c = omega arith
+
+part-write-line-start : tie.Need-part-write-line-start Inv-loop μ-loop Inv-loop2 μ-loop2
+part-write-line-start c = omega arith
+
+part-write-line-end : tie.Need-part-write-line-end Inv-loop μ-loop Inv-loop2 μ-loop2
+part-write-line-end c =
+    let a = c .before .before .before .before .before .before .before .args in
+    let l = c .before .before .before .before .loop in
+    let k = c .before .before .loop2 in
+    let w = l .inv .filled .long in
+    let h : length (k .bytes) ≡ length (now (a .bytes)) = rw (k .inv .1) (lines-length (l .ranges) (now (a .bytes)) (k .j) (omega arith) (omega arith)) in
+    omega arith
+
+write-line-requires : tie.Need-write-line-requires Inv-loop μ-loop Inv-loop2 μ-loop2
+write-line-requires c κs =
+    let a = c .before .before .before .before .before .before .before .before .args in
+    let l = c .before .before .before .before .before .loop in
+    (c .write-line-arg .given .2 ∙ omega arith, fetch-real (now (a .steps)) (a .n) (l .ranges) (l .i) (l .inv) _ _ (omega arith))
+
+add-j : tie.Need-add-j Inv-loop μ-loop Inv-loop2 μ-loop2
+add-j c = omega arith
+
+loop2-less : tie.Need-loop2-less Inv-loop μ-loop Inv-loop2 μ-loop2
+loop2-less c = omega arith
+
+loop2-again : tie.Need-loop2-again Inv-loop μ-loop Inv-loop2 μ-loop2
+loop2-again c =
+    let a = c .before .before .before .before .before .before .before .before .before .before .before .args in
+    let l = c .before .before .before .before .before .before .before .before .loop in
+    let k = c .before .before .before .before .before .before .loop2 in
+    let w = l .inv .filled .long in
+    (omega arith, rw (k .inv .1, c .before .before .write-line .ensures) (lines-next (l .ranges) (now (a .bytes)) (k .j) (Doubles (record { low = nan; high = nan })) (k .j * sheetLine + sheetLine - k .j * sheetLine) (omega arith) (omega arith)))
+
+same-length : tie.Need-same-length Inv-loop μ-loop Inv-loop2 μ-loop2
+same-length c =
+    let a = c .before .before .before .before .before .before .args in
+    let l = c .before .before .before .loop in
+    let k = c .before .loop2 in
+    let w = l .inv .filled .long in
+    rw (k .inv .1) (lines-length (l .ranges) (now (a .bytes)) (k .j) (omega arith) (omega arith))
+
+returns-2 : tie.Need-returns-2 Inv-loop μ-loop Inv-loop2 μ-loop2
+returns-2 c =
+    let a = c .before .before .before .before .before .before .args in
+    let l = c .before .before .before .loop in
+    let k = c .before .loop2 in
+    let w = l .inv .filled .long in
+    let e : k .j ≡ a .n = omega arith in
+    let m : length (map seenRange (take (a .n) (l .ranges))) ≡ a .n = length-map (take (a .n) (l .ranges)) seenRange ∙ length-take-le (a .n) (l .ranges) (omega arith) in
+    rw (shown-done (now (a .steps)) (a .n) (l .ranges) (l .i) (l .inv) (omega arith)) (rw m, rw (k .inv .1, e) (all-lines (l .ranges) (a .n) (now (a .bytes)) (omega arith)))
+
+pub write-sheet-spec : {M : Type 1} → statement M
+write-sheet-spec =
+    tie.close
+    (tie.spec
+    Inv-loop
+    μ-loop
+    Inv-loop2
+    μ-loop2
+    loop-holds
+    step-at-requires
+    place-of-requires
+    place-of-requires-2
+    mul-a
+    array-copy-out-a
+    mul-b
+    array-copy-out-b
+    step-range-requires
+    enum-known-r
+    enum-known-number
+    turned-down-requires
+    returns
+    mul-ranges
+    array-set-from-ranges
+    add-i
+    loop-less
+    loop-again
+    loop2-holds
+    mul-r
+    array-copy-out-r
+    mul-at
+    add-write-line
+    sub-write-line
+    part-write-line-start
+    part-write-line-end
+    write-line-requires
+    add-j
+    loop2-less
+    loop2-again
+    same-length
+    returns-2)

@@ -1,0 +1,2 @@
+-- What the contracts of `sheets` cite beside the definitions of `semantics`.
+pub mod Packed

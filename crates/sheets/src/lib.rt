@@ -1,0 +1,124 @@
+// The sheet of a recipe: the range of every step (document 01, "Recipe text", "Turning text down" and "Sheet and run on paper").
+ghost use mathlib.Core.Path.{_≡_};
+ghost use mathlib.Core.List.{List, []};
+ghost use Prim.Native.Nat.{_*_, _≤_};
+ghost use lib.ListN.{length};
+ghost use Rattle.recipe.specs.declared.Step.{Step};
+ghost use Rattle.recipe.specs.Text.{mostSteps};
+ghost use Rattle.recipe.specs.Packed.{stepsIn};
+ghost use Rattle.recipe.specs.Answer.{Holds};
+ghost use Rattle.semantics.specs.Sheet.{refused, sheetLine, sheetSteps, sheetOf, answerOf, lineOf, bytesOf};
+ghost use Rattle.ranges.specs.Seen.{RealRange, seenRange};
+ghost use Rattle.ranges.specs.Carried.{carriedFrom};
+ghost use Rattle.sheets.specs.Packed.{sheetWords};
+use ranges::Bound;
+use ranges::Range;
+use ranges::WholeRange;
+use ranges::bounds::step_range;
+use reader::read;
+use recipe::MOST_STEPS;
+use recipe::MOST_WORDS;
+use semantics::SHEET_LINE;
+use semantics::SheetAnswer;
+use steps::bad_words;
+use steps::step_at;
+use steps::table::kind_number;
+use values::place_of;
+
+// The answer of a refusal.
+fn turned_down(number: u64, place: u64) -> SheetAnswer
+    ensures { λ r. ⌜ r ≡ answerOf (refused number place) ⌝ }
+{
+    SheetAnswer {
+        refusal: number,
+        place,
+        steps: 0,
+    }
+}
+
+// Fills a line: step 2 digits, kind 2, low 16, high 16, a line feed.
+fn write_line(step: usize, r: Range, line: &mut [u8])
+    requires { ⌜ (length (now line) ≡ sheetLine) × RealRange r ⌝ }
+    ensures { λ _. ⌜ now (line .exit) ≡ lineOf step (seenRange r) ⌝ }
+{
+    hex::write(step as u64, &mut line[..2]);
+    hex::write(kind_number(r.kind()) as u64, &mut line[2..4]);
+    hex::write(r.low_word(), &mut line[4..20]);
+    hex::write(r.high_word(), &mut line[20..36]);
+    line[36] = b'\n';
+}
+
+// The sheet of the first n steps; writes its lines only after the last has its range.
+fn write_sheet(steps: &[u64], n: usize, bytes: &mut [u8]) -> SheetAnswer
+    requires { ⌜ (n ≤ mostSteps) × (3 * n ≤ length (now steps)) × (n * sheetLine ≤ length (now bytes)) ⌝ }
+    ensures { λ r. ⌜ (r ≡ answerOf (carriedFrom (stepsIn (now (steps .entry)) n) 0 []))
+        × (now (bytes .exit) ≡ bytesOf (carriedFrom (stepsIn (now (steps .entry)) n) 0 []) (now (bytes .entry))) ⌝ }
+{
+    let mut ranges = [Range::Wholes(WholeRange { low: 0, high: 0 }); MOST_STEPS];
+    let mut i: usize = 0;
+    while i < n {
+        let t = step_at(steps, i);
+        let f = place_of(t.a, i);
+        let g = place_of(t.b, i);
+        let a = ranges[f];
+        let b = ranges[g];
+        let r = match step_range(t, a, b) {
+            Bound::Ranged(r) => r,
+            Bound::Refused(number) => return turned_down(number, i as u64),
+        };
+        ranges[i] = r;
+        i += 1;
+    }
+    let mut j: usize = 0;
+    while j < n {
+        let r = ranges[j];
+        let at = j * SHEET_LINE;
+        write_line(j, r, &mut bytes[at..at + SHEET_LINE]);
+        j += 1;
+    }
+    SheetAnswer {
+        refusal: 0,
+        place: 0,
+        steps: n as u64,
+    }
+}
+
+// Writes the sheet of a recipe that was read, 37 bytes a step, and answers the number of steps. The rest of the bytes stays as lent, and so
+// does all of it where the sheet is refused. `steps` has the recipe's steps, three words each, as the reader put them.
+//
+// Refuses, in this order: 40 where there are fewer bytes than 37 a step, at place 0; then the first step's 20 to 22 as stated for the sheet,
+// at that step. Before these, of words that the reader gave for no text: 10 where they are not three each for 1 to 128 steps, at place 0.
+//
+// The first part of the contract speaks of any words; the second of those of formed steps, of which no range has an end that is a NaN, so
+// that floats carry the ends as they are.
+pub fn sheet_recipe(steps: &[u64], bytes: &mut [u8]) -> SheetAnswer
+    ensures { λ r. ⌜ (r ≡ answerOf (sheetWords (now (steps .entry)) (length (now (bytes .entry)))))
+        × (now (bytes .exit) ≡ bytesOf (sheetWords (now (steps .entry)) (length (now (bytes .entry)))) (now (bytes .entry))) ⌝ }
+    ensures { λ r. ⌜ ((l : List Step) → Holds l (now (steps .entry)) →
+        (r ≡ answerOf (sheetSteps l (length (now (bytes .entry)))))
+        × (now (bytes .exit) ≡ bytesOf (sheetSteps l (length (now (bytes .entry)))) (now (bytes .entry)))) ⌝ }
+{
+    let size = steps.len();
+    if bad_words(size) {
+        return turned_down(10, 0);
+    }
+    let n = size / 3;
+    if bytes.len() < n * SHEET_LINE {
+        return turned_down(40, 0);
+    }
+    write_sheet(steps, n, bytes)
+}
+
+// The same of a recipe's text. Refuses 10 to 17 as the reader does, before all others.
+pub fn sheet(text: &[u8], bytes: &mut [u8]) -> SheetAnswer
+    ensures { λ r. ⌜ (r ≡ answerOf (sheetOf (now (text .entry)) (length (now (bytes .entry)))))
+        × (now (bytes .exit) ≡ bytesOf (sheetOf (now (text .entry)) (length (now (bytes .entry)))) (now (bytes .entry))) ⌝ }
+{
+    let mut steps = [0u64; MOST_WORDS];
+    let recipe = read(text, &mut steps);
+    if recipe.refusal != 0 {
+        return turned_down(recipe.refusal, recipe.place);
+    }
+    let size = 3 * recipe.count;
+    sheet_recipe(&steps[..size], bytes)
+}

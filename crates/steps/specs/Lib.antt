@@ -1,0 +1,2 @@
+-- What the contracts of `steps` cite beside the definitions of `recipe`.
+pub mod Order

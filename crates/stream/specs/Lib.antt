@@ -1,4 +1,0 @@
--- What the contracts of `stream` cite.
-pub mod Output
-pub mod Stage
-pub mod Sheet

@@ -1,0 +1,5 @@
+-- The laws of `values`.
+pub mod Floats
+pub mod Wholes
+pub mod Outcomes
+pub mod Sums

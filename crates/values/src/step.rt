@@ -1,0 +1,212 @@
+// The step rules: a step's value from its operands' values (document 01, "Recipe text"), and refusals 20 to 22.
+ghost use mathlib.Core.Path.{_≡_};
+ghost use mathlib.Core.Bool.{cond};
+ghost use Prim.Native.Nat.{_^_, _≤_};
+ghost use lib.Dec.{eqb, leb};
+ghost use lib.IntN.{natAbs, _+ℤ_, _-ℤ_};
+ghost use lib.Signed.{mag, nonNeg};
+ghost use Rattle.float_format.specs.Format.{binary64};
+ghost use Rattle.float_format.specs.Rounding.{lroundRefusal, lroundValue};
+ghost use Rattle.splitting.specs.Splitting.{modfFraction};
+ghost use Rattle.remainder.specs.Remainder.{fmod, fmodRefusal};
+ghost use Rattle.scaling.specs.Scaling.{ldexp, ldexpRefusal};
+ghost use Rattle.semantics.specs.Value.{real, whole, done, refused, fitsWord, ofWhole, stepValue};
+ghost use Rattle.values.specs.Seen.{Real, seen, outcomeOf, RealOutcome};
+use super::Outcome;
+use super::Value;
+use float_format::Binary64;
+use float_format::width::encoded;
+use recipe::Step;
+use rounding::binary64;
+use twos_complement::signed;
+
+// ---- whole numbers by their magnitudes
+
+// Its distance from 0, or from -1 of a number below 0.
+fn magnitude(z: i64) -> u64
+    ensures { λ r. ⌜ r ≡ mag z ⌝ }
+{
+    if z >= 0 { z as u64 } else { (!z) as u64 }
+}
+
+fn at_least_zero(z: i64) -> bool
+    ensures { λ r. ⌜ r ≡ nonNeg z ⌝ }
+{
+    z >= 0
+}
+
+// Whether the sum has 64 bits: only that of two numbers on one side of 0 may not.
+fn sum_fits(m: i64, n: i64) -> bool
+    ensures { λ r. ⌜ r ≡ fitsWord (m +ℤ n) ⌝ }
+{
+    let s = magnitude(m) + magnitude(n);
+    if at_least_zero(m) {
+        if at_least_zero(n) {
+            return s < 0x8000_0000_0000_0000;
+        }
+        return true;
+    }
+    if at_least_zero(n) {
+        return true;
+    }
+    s + 1 < 0x8000_0000_0000_0000
+}
+
+// Whether the difference has: only that of two numbers on both sides of 0 may not.
+fn difference_fits(m: i64, n: i64) -> bool
+    ensures { λ r. ⌜ r ≡ fitsWord (m -ℤ n) ⌝ }
+{
+    let s = magnitude(m) + magnitude(n);
+    if at_least_zero(m) {
+        if at_least_zero(n) {
+            return true;
+        }
+        return s + 1 < 0x8000_0000_0000_0000;
+    }
+    if at_least_zero(n) {
+        return s < 0x8000_0000_0000_0000;
+    }
+    true
+}
+
+// ---- what a step comes to
+
+pub fn real_of(x: u64) -> Outcome
+    ensures { λ r. ⌜ (outcomeOf r ≡ done (real x)) × RealOutcome r ⌝ }
+{
+    Outcome::Done(Value::real(x))
+}
+
+pub fn whole_of(z: i64) -> Outcome
+    ensures { λ r. ⌜ (outcomeOf r ≡ done (whole z)) × RealOutcome r ⌝ }
+{
+    Outcome::Done(Value::Whole(z))
+}
+
+// 18
+pub fn lround_of(x: u64) -> Outcome
+    ensures { λ r. ⌜ (outcomeOf r ≡ cond (eqb (lroundRefusal binary64 x) 0) (done (whole (lroundValue binary64 x))) (refused 21)) × RealOutcome r ⌝ }
+{
+    let answer = binary64::lround(x);
+    if answer.refusal() == 0 {
+        return whole_of(answer.value());
+    }
+    Outcome::Refused(21)
+}
+
+// 22
+fn fmod_of(x: u64, y: u64) -> Outcome
+    ensures { λ r. ⌜ (outcomeOf r ≡ cond (eqb (fmodRefusal binary64 x y) 0) (done (real (fmod binary64 x y))) (refused 20)) × RealOutcome r ⌝ }
+{
+    let answer = remainder::binary64::fmod(x, y);
+    if answer.refusal == 0 {
+        return real_of(answer.word);
+    }
+    Outcome::Refused(20)
+}
+
+// 23
+pub fn ldexp_of(x: u64, n: i64) -> Outcome
+    ensures { λ r. ⌜ (outcomeOf r ≡ cond (eqb (ldexpRefusal binary64 x n) 0) (done (real (ldexp binary64 x n))) (refused 21)) × RealOutcome r ⌝ }
+{
+    let answer = scaling::binary64::ldexp(x, n);
+    if answer.refusal == 0 {
+        return real_of(answer.word);
+    }
+    Outcome::Refused(21)
+}
+
+// 30
+pub fn sum_of(m: i64, n: i64) -> Outcome
+    ensures { λ r. ⌜ (outcomeOf r ≡ cond (fitsWord (m +ℤ n)) (done (whole (m +ℤ n))) (refused 21)) × RealOutcome r ⌝ }
+{
+    if sum_fits(m, n) {
+        return whole_of(m + n);
+    }
+    Outcome::Refused(21)
+}
+
+// 31
+pub fn difference_of(m: i64, n: i64) -> Outcome
+    ensures { λ r. ⌜ (outcomeOf r ≡ cond (fitsWord (m -ℤ n)) (done (whole (m -ℤ n))) (refused 21)) × RealOutcome r ⌝ }
+{
+    if difference_fits(m, n) {
+        return whole_of(m - n);
+    }
+    Outcome::Refused(21)
+}
+
+// The pattern of a whole number of magnitude at most 2^53: one is 2^1074 units. 2^53 itself is the first with a digit too many.
+fn pattern_of(z: i64, a: u64) -> u64
+    requires { ⌜ (a ≡ natAbs z) × (a ≤ 2 ^ 53) ⌝ }
+    ensures { λ r. ⌜ r ≡ ofWhole z ⌝ }
+{
+    let rest = if a < 0x20_0000_0000_0000 {
+        encoded(Binary64::FRACTION_BITS, Binary64::EXPONENT_BITS, a, 1074)
+    } else {
+        0x4340_0000_0000_0000
+    };
+    if at_least_zero(z) {
+        return rest;
+    }
+    Binary64::SIGN + rest
+}
+
+// 32
+pub fn double_of(z: i64) -> Outcome
+    ensures { λ r. ⌜ (outcomeOf r ≡ cond (leb (natAbs z) (2 ^ 53)) (done (real (ofWhole z))) (refused 22)) × RealOutcome r ⌝ }
+{
+    let a = if at_least_zero(z) {
+        magnitude(z)
+    } else {
+        magnitude(z) + 1
+    };
+    if a <= 0x20_0000_0000_0000 {
+        return real_of(pattern_of(z, a));
+    }
+    Outcome::Refused(22)
+}
+
+// The value of the step t, w being the frame's word for it where it is an input, a and b its operands' values.
+pub fn step_value(t: Step, w: u64, a: Value, b: Value) -> Outcome
+    requires { ⌜ Real a × Real b ⌝ }
+    ensures { λ r. ⌜ (outcomeOf r ≡ stepValue t w (seen a) (seen b)) × RealOutcome r ⌝ }
+{
+    let x = a.double();
+    let y = b.double();
+    let m = a.whole();
+    let n = b.whole();
+    let p = t.p;
+    let opcode = t.opcode;
+    match opcode {
+        0x01 => real_of(w),
+        0x02 => whole_of(signed(w)),
+        0x03 => real_of(p),
+        0x04 => whole_of(signed(p)),
+        0x10 => real_of(binary64::floor(x)),
+        0x11 => real_of(binary64::ceil(x)),
+        0x12 => real_of(binary64::trunc(x)),
+        0x13 => real_of(binary64::round(x)),
+        0x14 => real_of(binary64::nearbyint(x)),
+        0x15 => real_of(fraction_of(x)),
+        0x16 => real_of(Binary64::fabs(x)),
+        0x17 => real_of(Binary64::negate(x)),
+        0x18 => lround_of(x),
+        0x20 => real_of(ordering::binary64::fmin(x, y)),
+        0x21 => real_of(ordering::binary64::fmax(x, y)),
+        0x22 => fmod_of(x, y),
+        0x23 => ldexp_of(x, n),
+        0x30 => sum_of(m, n),
+        0x31 => difference_of(m, n),
+        0x32 => double_of(m),
+        _ => whole_of(0),
+    }
+}
+
+// 15: modf's fraction.
+fn fraction_of(x: u64) -> u64
+    ensures { λ r. ⌜ r ≡ modfFraction binary64 x ⌝ }
+{
+    let parts = splitting::binary64::modf_patterns(x);
+    parts.fraction
+}
