@@ -5,7 +5,6 @@ use mathlib.Core.List.{List, [], _∷_, _++_, append-assoc, append-nil}
 use Prim.Native.Nat.{ℕ, _≤_}
 use native.Mathlib.Omega.{arith}
 use lib.ListN.{length}
-use Rattle.recipe.specs.declared.Step.{Step}
 use Rattle.recipe.specs.Text.{short, refused, readText}
 use Rattle.programs.specs.Output.{refusalLine, lastByte, linesAfter, lastLine, answers, parted, whole, endless, partAfter, onRecipe, outputOf, runOutput}
 use Rattle.programs.specs.Stage.{NoFeed}

@@ -1,20 +1,20 @@
 -- What a user of the sheet program would state of its output: the lines of a sheet that passes, a refusal's one line, and how much of the
 -- input decides. The bytes of the longest sheet are lent, so refusal 40 is never met. Assumes nothing.
-use mathlib.Core.Path.{_≡_, refl, ap, _∙_, sym}
+use mathlib.Core.Path.{_≡_, refl, _∙_, sym}
 use mathlib.Core.Bool.{Bool, true, false, not, _||_}
-use mathlib.Core.List.{List, [], _++_, append-nil}
-use Prim.Native.Nat.{ℕ, _*_, _%_, _<_}
+use mathlib.Core.List.{List, append-nil}
+use Prim.Native.Nat.{ℕ, _%_, _<_}
 use native.Mathlib.Omega.{arith}
 use lib.Dec.{eqb, ltb}
 use lib.ListN.{length, take}
 use lib.Seq.{length-take-le, drop-nil}
 use borrow.Author.Tests.{eq-eqb, ne-eqb, lt-ltb}
-use Rattle.recipe.specs.Text.{Text, short, lineLength, longest, readText}
+use Rattle.recipe.specs.Text.{short, lineLength, longest, readText}
 use Rattle.recipe.specs.Text as text
 use Rattle.recipe.proofs.Laws.{refusal-positive}
 use Rattle.semantics.specs.declared.SheetAnswer.{SheetAnswer}
 use Rattle.semantics.specs.Range.{Range}
-use Rattle.semantics.specs.Sheet.{Sheet, passed, refused, sheetLine, longestSheet, onText, sheetOf, answerOf, linesFrom, bytesOf}
+use Rattle.semantics.specs.Sheet.{passed, refused, longestSheet, sheetOf, linesFrom}
 use Rattle.semantics.proofs.Calls.{sheet-refused}
 use Rattle.programs.specs.Output.{refusalLine, lookedAt}
 use Rattle.programs.specs.Sheet.{onSheet, sheetOutput}

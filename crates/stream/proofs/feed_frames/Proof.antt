@@ -1,7 +1,6 @@
 -- `feed_frames` meets its contract: `take_lines` does the work, on the words of the steps alone. Assumes nothing.
 use mathlib.Core.Path.{sym}
 use Prim.Native.Nat.{_*_}
-use native.Mathlib.Omega.{arith}
 use lib.Seq.{length-take-le}
 use denote.Ref.{now}
 use borrow.Author.Needs.{needs}
