@@ -14,7 +14,7 @@ use Rattle.recipe.specs.Table.{rowOf}
 use Rattle.recipe.specs.Text.{readText, readFrom, onNext, nextOf, judged, stepRefusal, inputsIn, lineAt, fromFields}
 use Rattle.semantics.specs.Value.{ruleOf, stepValue}
 use Rattle.semantics.specs.Frame.{onField, wordsFrom, ranged, onWords, readFrame}
-use Rattle.semantics.specs.Run.{onOutcome, runFrom, onFrame, runSteps}
+use Rattle.semantics.specs.Run.{onOutcome, runFrom, onFrame, callOn, runSteps}
 use Rattle.programs.specs.Output.{refusalLine, answerLine, frameLine, lastLine, linesAfter, answers, partAfter, onRecipe, outputOf, runOutput}
 
 pub record Case : Type 0 where
@@ -57,5 +57,5 @@ examples =
     ∷ []
 
 pub run-examples : map (λ (c : Case). runOutput (c .input)) examples ≡ map (λ (c : Case). c .output) examples
-unfolding examples run recipe lines bytes runOutput outputOf onRecipe partAfter answers linesAfter lastLine frameLine answerLine refusalLine digits readText readFrom onNext nextOf judged stepRefusal inputsIn lineAt fromFields rowOf fieldOf digitOf isNan isInfinite above under magnitude encode size parts wholePart integral lroundRefusal lroundValue ruleOf stepValue onField wordsFrom ranged onWords readFrame onOutcome runFrom onFrame runSteps
+unfolding examples run recipe lines bytes runOutput outputOf onRecipe partAfter answers linesAfter lastLine frameLine answerLine refusalLine digits readText readFrom onNext nextOf judged stepRefusal inputsIn lineAt fromFields rowOf fieldOf digitOf isNan isInfinite above under magnitude encode size parts wholePart integral lroundRefusal lroundValue ruleOf stepValue onField wordsFrom ranged onWords readFrame onOutcome runFrom onFrame runSteps callOn
 run-examples = refl

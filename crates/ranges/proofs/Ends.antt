@@ -7,7 +7,8 @@ use lib.IntN.{ℤ, natAbs}
 use Rattle.float_format.specs.Format.{binary64}
 use Rattle.float_format.specs.Rounding.{lroundRefusal, lroundValue}
 use Rattle.scaling.specs.Scaling.{ldexp, ldexpRefusal}
-use Rattle.semantics.specs.Value.{whole, real, Outcome, done, fitsWord, ofWhole}
+use Rattle.semantics.specs.Value.{whole, Outcome, done, fitsWord, ofWhole}
+use Rattle.values.specs.Carried.{real}
 use Rattle.semantics.specs.Value as value
 use Rattle.semantics.specs.Range.{Range, doubles, wholes, Ranged, ranged, refused, low, high, least, most, isNegative, isPositive, infiniteEnd, holdsZero, greatest, fmodLow, fmodHigh, fmodRange, ldexpRange, lroundRange, wholeRange, doubleRange}
 use Rattle.ranges.specs.Carried.{between, carried}

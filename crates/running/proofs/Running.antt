@@ -1,5 +1,5 @@
--- The run's loops: the values step by step, and then their words. The invariant `Going` says that the run of the whole is the run of the rest
--- after the values so far; no value is a NaN. Assumes nothing.
+-- The run's loops: the values step by step, and then their words. The invariant `Going` says that the run of the whole, as floats carry it, is
+-- the run of the rest after the values so far; no value is a NaN. Assumes nothing.
 use mathlib.Core.Path.{_≡_, refl, ap, sym, _∙_}
 use mathlib.Core.Bool.{cond}
 use mathlib.Core.List.{List, [], _∷_, _++_, map, map-append, map-map}
@@ -22,8 +22,10 @@ use Rattle.values.specs.declared.Outcome.the-variants.{Done, Refused}
 use Rattle.semantics.specs.Value.{Datum, wordOf, done, stepValue}
 use Rattle.semantics.specs.Value as value
 use Rattle.values.specs.Seen.{seen, Real, outcomeOf, RealOutcome}
-use Rattle.semantics.specs.Run.{completed, refused, stepOn, onOutcome, runFrom, lastOf, wordsOf}
+use Rattle.semantics.specs.Run.{completed, refused, stepOn, onOutcome, lastOf, wordsOf}
 use Rattle.frame.specs.Stages.{Same}
+use Rattle.values.specs.Carried.{carried}
+use Rattle.running.specs.Carried.{carriedFrom}
 use Rattle.semantics.proofs.Lists.{grow}
 use Rattle.semantics.proofs.Filled.{Filled, filled-start, filled-more, fetch-all, fetch, fetch-last}
 
@@ -37,18 +39,18 @@ word v = wordOf (seen v)
 
 -- ---- one step of the fold
 
-step-good : (t : Step) (ts : List Step) (k j : ℕ) (ws : List ℕ) (l : List Datum) (v : Datum) → stepOn t (getD ws j 0) l ≡ done v
-    → runFrom (t ∷ ts) k j ws l ≡ runFrom ts (suc k) (cond (isInput (rowOf (t .opcode))) 1 0 + j) ws (l ++ (v ∷ []))
-unfolding runFrom onOutcome
-step-good t ts k j ws l v e = ap (λ x. onOutcome x k (λ v. runFrom ts (suc k) (cond (isInput (rowOf (t .opcode))) 1 0 + j) ws (l ++ (v ∷ [])))) e
+step-good : (t : Step) (ts : List Step) (k j : ℕ) (ws : List ℕ) (l : List Datum) (v : Datum) → carried (stepOn t (getD ws j 0) l) ≡ done v
+    → carriedFrom (t ∷ ts) k j ws l ≡ carriedFrom ts (suc k) (cond (isInput (rowOf (t .opcode))) 1 0 + j) ws (l ++ (v ∷ []))
+unfolding carriedFrom onOutcome
+step-good t ts k j ws l v e = ap (λ x. onOutcome x k (λ v. carriedFrom ts (suc k) (cond (isInput (rowOf (t .opcode))) 1 0 + j) ws (l ++ (v ∷ [])))) e
 
-step-bad : (t : Step) (ts : List Step) (k j : ℕ) (ws : List ℕ) (l : List Datum) (number : ℕ) → stepOn t (getD ws j 0) l ≡ value.refused number
-    → runFrom (t ∷ ts) k j ws l ≡ refused number k
-unfolding runFrom onOutcome
-step-bad t ts k j ws l number e = ap (λ x. onOutcome x k (λ v. runFrom ts (suc k) (cond (isInput (rowOf (t .opcode))) 1 0 + j) ws (l ++ (v ∷ [])))) e
+step-bad : (t : Step) (ts : List Step) (k j : ℕ) (ws : List ℕ) (l : List Datum) (number : ℕ) → carried (stepOn t (getD ws j 0) l) ≡ value.refused number
+    → carriedFrom (t ∷ ts) k j ws l ≡ refused number k
+unfolding carriedFrom onOutcome
+step-bad t ts k j ws l number e = ap (λ x. onOutcome x k (λ v. carriedFrom ts (suc k) (cond (isInput (rowOf (t .opcode))) 1 0 + j) ws (l ++ (v ∷ [])))) e
 
-steps-done : (k j : ℕ) (ws : List ℕ) (l : List Datum) → runFrom [] k j ws l ≡ completed l
-unfolding runFrom
+steps-done : (k j : ℕ) (ws : List ℕ) (l : List Datum) → carriedFrom [] k j ws l ≡ completed l
+unfolding carriedFrom
 steps-done k j ws l = refl
 
 -- ---- the values
@@ -58,7 +60,7 @@ pub record Going (w : List ℕ) (n : ℕ) (held : List ℕ) (values : List Value
   pub within : i ≤ n
   pub few : next ≤ i
   pub filled : Filled start Real values i
-  pub same : (ws : List ℕ) → Same held ws → runFrom (stepsIn w n) 0 0 ws [] ≡ runFrom (drop i (stepsIn w n)) i next ws (map seen (take i values))
+  pub same : (ws : List ℕ) → Same held ws → carriedFrom (stepsIn w n) 0 0 ws [] ≡ carriedFrom (drop i (stepsIn w n)) i next ws (map seen (take i values))
 
 pub going-start : (w : List ℕ) (n : ℕ) (held : List ℕ) → Going w n held (replicate mostSteps start) 0 0
 going-start w n held =
@@ -80,11 +82,11 @@ module _ (w : List ℕ) (n : ℕ) (held : List ℕ) (values : List Value) (next 
 
   module _ (h : i < n) (m : n ≤ mostSteps) (t : Step) (et : t ≡ stepAt w i) (x : ℕ) (ex : x ≡ getD held next 0)
       (f₁ f₂ : ℕ) (z : Value) (e₁ : f₁ ≡ cond (ltb (first t) i) (first t) i) (e₂ : f₂ ≡ cond (ltb (second t) i) (second t) i)
-      (r : Outcome) (er : outcomeOf r ≡ stepValue t x (seen (getD values f₁ z)) (seen (getD values f₂ z))) where
+      (r : Outcome) (er : outcomeOf r ≡ carried (stepValue t x (seen (getD values f₁ z)) (seen (getD values f₂ z)))) where
     left : drop i (stepsIn w n) ≡ t ∷ drop (i + 1) (stepsIn w n)
     left = rw et (next-step w n i h)
 
-    did : (ws : List ℕ) → Same held ws → stepOn t (getD ws next 0) (map seen (take i values)) ≡ outcomeOf r
+    did : (ws : List ℕ) → Same held ws → carried (stepOn t (getD ws next 0) (map seen (take i values))) ≡ outcomeOf r
     did ws q = rw (sym (q next), sym ex, sym (fetch start Real values i (g .filled) seen (first t) f₁ z (omega arith) e₁), sym (fetch start Real values i (g .filled) seen (second t) f₂ z (omega arith) e₂)) (sym er)
 
     pub going-more : (v : Value) → r ≡ Done v → RealOutcome r → (c : ℕ) → c ≡ cond (isInput (rowOf (t .opcode))) 1 0 + next → c ≤ next + 1
@@ -102,11 +104,11 @@ module _ (w : List ℕ) (n : ℕ) (held : List ℕ) (values : List Value) (next 
               (step-good t (drop (suc i) (stepsIn w n)) i next ws (map seen (take i values)) (seen v) (did ws q ∙ ap outcomeOf e));
         }
 
-    pub going-refused : (number : ℕ) → r ≡ Refused number → (ws : List ℕ) → Same held ws → runFrom (stepsIn w n) 0 0 ws [] ≡ refused number i
+    pub going-refused : (number : ℕ) → r ≡ Refused number → (ws : List ℕ) → Same held ws → carriedFrom (stepsIn w n) 0 0 ws [] ≡ refused number i
     going-refused number e ws q =
         g .same ws q ∙ rw left (step-bad t (drop (i + 1) (stepsIn w n)) i next ws (map seen (take i values)) number (did ws q ∙ ap outcomeOf e))
 
-  pub going-done : n ≤ i → (ws : List ℕ) → Same held ws → runFrom (stepsIn w n) 0 0 ws [] ≡ completed (map seen (take n values))
+  pub going-done : n ≤ i → (ws : List ℕ) → Same held ws → carriedFrom (stepsIn w n) 0 0 ws [] ≡ completed (map seen (take n values))
   going-done h ws q =
       let b = g .within in
       let e : n ≡ i = omega arith in

@@ -7,10 +7,11 @@ ghost use Rattle.recipe.specs.declared.Step.{Step};
 ghost use Rattle.recipe.specs.Text.{mostSteps, steps, short, readText};
 ghost use Rattle.recipe.specs.Packed.{stepsIn};
 ghost use Rattle.recipe.specs.Answer.{Holds};
-ghost use Rattle.semantics.specs.Run.{runFrom, refused, answerOf, wordsOf, runOf};
-ghost use Rattle.semantics.specs.Packed.{runWords};
+ghost use Rattle.semantics.specs.Run.{refused, answerOf, wordsOf, runSteps, runOf};
 ghost use Rattle.semantics.specs.Promise.{Keeps};
 ghost use Rattle.frame.specs.Stages.{Same};
+ghost use Rattle.running.specs.Carried.{carriedFrom};
+ghost use Rattle.running.specs.Packed.{runWords};
 use frame::Inputs;
 use frame::Ranges;
 use frame::check_ranges;
@@ -54,8 +55,8 @@ fn refusal_at(number: u64, step: StepNumber) -> RunAnswer
 fn evaluate(steps: &[u64], n: usize, inputs: Inputs, words: &mut [u64]) -> RunAnswer
     requires { ⌜ (n ≤ mostSteps) × (3 * n ≤ length (now steps)) × (n ≤ length (now words)) ⌝ }
     ensures { λ r. ⌜ ((ws : List ℕ) → Same (inputs .words) ws →
-        (r ≡ answerOf (runFrom (stepsIn (now (steps .entry)) n) 0 0 ws []))
-        × (now (words .exit) ≡ wordsOf (runFrom (stepsIn (now (steps .entry)) n) 0 0 ws []) (now (words .entry)))) ⌝ }
+        (r ≡ answerOf (carriedFrom (stepsIn (now (steps .entry)) n) 0 0 ws []))
+        × (now (words .exit) ≡ wordsOf (carriedFrom (stepsIn (now (steps .entry)) n) 0 0 ws []) (now (words .entry)))) ⌝ }
 {
     let mut values = [Value::Whole(0); MOST_STEPS];
     let mut next = InputNumber(0);
@@ -100,12 +101,16 @@ fn evaluate(steps: &[u64], n: usize, inputs: Inputs, words: &mut [u64]) -> RunAn
 // then the first step's 20 to 22, at that step. Before these, of words that the reader gave for no text: 10 where they are not three each for
 // 1 to 128 steps, 17 where more than 16 of the steps are inputs, both at place 0.
 //
-// The second part of the contract is demand 3: where the steps are formed, their sheet is passed and the frame's inputs lie in their ranges,
-// the run completes, and every value has the kind and lies in the range that the sheet shows.
+// The first part of the contract speaks of any words, the second of those of formed steps, of which no value is a NaN, so that floats carry
+// the values as they are. With it comes demand 3: where the sheet of the steps is passed and the frame's inputs lie in their ranges, the run
+// completes, and every value has the kind and lies in the range that the sheet shows.
 pub fn run_recipe(steps: &[u64], frame: &[u8], words: &mut [u64]) -> RunAnswer
     ensures { λ r. ⌜ (r ≡ answerOf (runWords (now (steps .entry)) (now (frame .entry)) (length (now (words .entry)))))
         × (now (words .exit) ≡ wordsOf (runWords (now (steps .entry)) (now (frame .entry)) (length (now (words .entry)))) (now (words .entry))) ⌝ }
-    ensures { λ r. ⌜ ((l : List Step) → Holds l (now (steps .entry)) → Keeps l (now (frame .entry)) (now (words .entry)) r (now (words .exit))) ⌝ }
+    ensures { λ r. ⌜ ((l : List Step) → Holds l (now (steps .entry)) →
+        ((r ≡ answerOf (runSteps l (now (frame .entry)) (length (now (words .entry)))))
+        × (now (words .exit) ≡ wordsOf (runSteps l (now (frame .entry)) (length (now (words .entry)))) (now (words .entry))))
+        × Keeps l (now (frame .entry)) (now (words .entry)) r (now (words .exit))) ⌝ }
 {
     let size = steps.len();
     if bad_words(size) {

@@ -1,5 +1,5 @@
--- The run and the sheet of steps, stage by stage: what they come to where they stop, and where they go on. A text adds the reading, and words
--- that hold formed steps are run as those steps. Assumes nothing.
+-- The run and the sheet of steps, stage by stage: what they come to where they stop, and where they go on. A text adds the reading. Assumes
+-- nothing.
 use mathlib.Core.Path.{_≡_, refl, ap, sym, _∙_}
 use mathlib.Core.Bool.{Bool, true, false, cond}
 use mathlib.Core.List.{List, []}
@@ -11,17 +11,12 @@ use borrow.Author.Tests.{lt-ltb, le-ltb, eq-eqb, ne-eqb, ltb-false}
 use Rattle.recipe.specs.declared.Step.{Step}
 use Rattle.recipe.specs.Text.{Text, short, steps, mostSteps, inputsIn, readText}
 use Rattle.recipe.specs.Text as text
-use Rattle.recipe.specs.Packed.{badWords, stepsOf}
-use Rattle.recipe.specs.Answer.{Holds}
-use Rattle.recipe.proofs.Packed.{holds-words}
-use Rattle.recipe.proofs.Laws.{formed-inputs}
 use Rattle.semantics.specs.Frame.{Frame, words, onWords, wordsFrom, ranged, readFrame}
 use Rattle.semantics.specs.Frame as frame
 use Rattle.semantics.specs.Range.{Range}
-use Rattle.semantics.specs.Run.{refused, runFrom, onFrame, runSteps, onText, runOf}
+use Rattle.semantics.specs.Run.{Run, refused, runFrom, onFrame, callOn, runSteps, onText, runOf}
 use Rattle.semantics.specs.Sheet.{passed, sheetLine, sheetFrom, sheetSteps, sheetOf}
 use Rattle.semantics.specs.Sheet as sheet
-use Rattle.semantics.specs.Packed.{runWords}
 use Rattle.semantics.proofs.Sound.Kept.{never}
 
 -- ---- the frame
@@ -36,59 +31,77 @@ frame-words : (l : List Step) (s : List ℕ) → length s ≡ inputsIn l * 16
 unfolding readFrame
 frame-words l s h = rw (eq-eqb (length s) (16 * inputsIn l) (omega arith))
 
-words-refused : (x : Frame) (l : List Step) (number place : ℕ) → x ≡ frame.refused number place
-    → onFrame (onWords x (λ ws. ranged l 0 0 ws)) l ≡ refused number place
+words-refused : (x : Frame) (l : List Step) (more : List ℕ → Run) (number place : ℕ) → x ≡ frame.refused number place
+    → onFrame (onWords x (λ ws. ranged l 0 0 ws)) more ≡ refused number place
 unfolding onFrame onWords
-words-refused x l number place e = rw e
+words-refused x l more number place e = rw e
 
-words-good : (x : Frame) (l : List Step) (ws : List ℕ) → x ≡ words ws → onFrame (onWords x (λ ws. ranged l 0 0 ws)) l ≡ onFrame (ranged l 0 0 ws) l
+words-good : (x : Frame) (l : List Step) (more : List ℕ → Run) (ws : List ℕ) → x ≡ words ws
+    → onFrame (onWords x (λ ws. ranged l 0 0 ws)) more ≡ onFrame (ranged l 0 0 ws) more
 unfolding onWords
-words-good x l ws e = rw e
+words-good x l more ws e = rw e
 
-frame-refused : (x : Frame) (l : List Step) (number place : ℕ) → x ≡ frame.refused number place → onFrame x l ≡ refused number place
+frame-refused : (x : Frame) (more : List ℕ → Run) (number place : ℕ) → x ≡ frame.refused number place → onFrame x more ≡ refused number place
 unfolding onFrame
-frame-refused x l number place e = rw e
+frame-refused x more number place e = rw e
 
-frame-good : (x : Frame) (l : List Step) (ws : List ℕ) → x ≡ words ws → onFrame x l ≡ runFrom l 0 0 ws []
+frame-good : (x : Frame) (more : List ℕ → Run) (ws : List ℕ) → x ≡ words ws → onFrame x more ≡ more ws
 unfolding onFrame
-frame-good x l ws e = rw e
+frame-good x more ws e = rw e
 
--- ---- the run
+-- ---- a call, whatever comes of the steps on the frame's words
 
-module _ (l : List Step) (s : List ℕ) (room : ℕ) where
+module _ (more : List ℕ → Run) (l : List Step) (s : List ℕ) (room : ℕ) where
   -- refusal 40
-  pub run-short : room < length l → runSteps l s room ≡ refused 40 0
-  unfolding runSteps
-  run-short h = rw (lt-ltb room (length l) h)
+  pub call-short : room < length l → callOn more l s room ≡ refused 40 0
+  unfolding callOn
+  call-short h = rw (lt-ltb room (length l) h)
 
   module _ (r : length l ≤ room) where
-    framed : runSteps l s room ≡ onFrame (readFrame l s) l
-    unfolding runSteps
+    framed : callOn more l s room ≡ onFrame (readFrame l s) more
+    unfolding callOn
     framed = rw (le-ltb room (length l) r)
 
     -- refusal 30
-    pub run-length : (length s ≡ inputsIn l * 16 → ⊥) → runSteps l s room ≡ refused 30 0
-    run-length h = framed ∙ frame-refused (readFrame l s) l 30 0 (length-first l s h)
+    pub call-length : (length s ≡ inputsIn l * 16 → ⊥) → callOn more l s room ≡ refused 30 0
+    call-length h = framed ∙ frame-refused (readFrame l s) more 30 0 (length-first l s h)
 
     module _ (h : length s ≡ inputsIn l * 16) where
-      worded : runSteps l s room ≡ onFrame (onWords (wordsFrom s (inputsIn l) 0 []) (λ ws. ranged l 0 0 ws)) l
-      worded = framed ∙ ap (λ (x : Frame). onFrame x l) (frame-words l s h)
+      worded : callOn more l s room ≡ onFrame (onWords (wordsFrom s (inputsIn l) 0 []) (λ ws. ranged l 0 0 ws)) more
+      worded = framed ∙ ap (λ (x : Frame). onFrame x more) (frame-words l s h)
 
       -- refusal 31
-      pub run-malformed : wordsFrom s (inputsIn l) 0 [] ≡ frame.refused 31 0 → runSteps l s room ≡ refused 31 0
-      run-malformed e = worded ∙ words-refused (wordsFrom s (inputsIn l) 0 []) l 31 0 e
+      pub call-malformed : wordsFrom s (inputsIn l) 0 [] ≡ frame.refused 31 0 → callOn more l s room ≡ refused 31 0
+      call-malformed e = worded ∙ words-refused (wordsFrom s (inputsIn l) 0 []) l more 31 0 e
 
       module _ (ws : List ℕ) (e : wordsFrom s (inputsIn l) 0 [] ≡ words ws) where
-        ranges : runSteps l s room ≡ onFrame (ranged l 0 0 ws) l
-        ranges = worded ∙ words-good (wordsFrom s (inputsIn l) 0 []) l ws e
+        ranges : callOn more l s room ≡ onFrame (ranged l 0 0 ws) more
+        ranges = worded ∙ words-good (wordsFrom s (inputsIn l) 0 []) l more ws e
 
         -- refusal 32
-        pub run-outside : (p : ℕ) → ranged l 0 0 ws ≡ frame.refused 32 p → runSteps l s room ≡ refused 32 p
-        run-outside p f = ranges ∙ frame-refused (ranged l 0 0 ws) l 32 p f
+        pub call-outside : (p : ℕ) → ranged l 0 0 ws ≡ frame.refused 32 p → callOn more l s room ≡ refused 32 p
+        call-outside p f = ranges ∙ frame-refused (ranged l 0 0 ws) more 32 p f
 
         -- none of these
-        pub run-reached : ranged l 0 0 ws ≡ words ws → runSteps l s room ≡ runFrom l 0 0 ws []
-        run-reached f = ranges ∙ frame-good (ranged l 0 0 ws) l ws f
+        pub call-reached : ranged l 0 0 ws ≡ words ws → callOn more l s room ≡ more ws
+        call-reached f = ranges ∙ frame-good (ranged l 0 0 ws) more ws f
+
+-- what comes to the same on every frame that is admitted comes to the same on all
+pub call-same : (f g : List ℕ → Run) (l : List Step) (s : List ℕ) (room : ℕ) → ((ws : List ℕ) → readFrame l s ≡ words ws → f ws ≡ g ws)
+    → callOn f l s room ≡ callOn g l s room
+unfolding callOn onFrame
+call-same f g l s room h = ap (λ (x : Run). cond (ltb room (length l)) (refused 40 0) x) (by-frame (readFrame l s) refl)
+  where
+    by-frame : (x : Frame) → readFrame l s ≡ x → onFrame x f ≡ onFrame x g
+    by-frame (words ws) e = h ws e
+    by-frame (frame.refused number place) e = refl
+
+-- ---- the run
+
+-- a frame of the wrong length is refused 30
+pub run-length : (l : List Step) (s : List ℕ) (room : ℕ) → length l ≤ room → (length s ≡ inputsIn l * 16 → ⊥) → runSteps l s room ≡ refused 30 0
+unfolding runSteps
+run-length l s room r h = call-length (λ ws. runFrom l 0 0 ws []) l s room r h
 
 module _ (t s : List ℕ) (room : ℕ) where
   -- the reader's refusal
@@ -99,33 +112,6 @@ module _ (t s : List ℕ) (room : ℕ) where
   pub run-read : (l : List Step) → readText short t ≡ steps l → runOf t s room ≡ runSteps l s room
   unfolding runOf onText
   run-read l e = rw e
-
--- ---- the run of words
-
-module _ (w s : List ℕ) (room : ℕ) where
-  -- refusal 10
-  pub words-bad : badWords (length w) ≡ true → runWords w s room ≡ refused 10 0
-  unfolding runWords
-  words-bad e = rw e
-
-  module _ (e : badWords (length w) ≡ false) where
-    -- refusal 17
-    pub words-crowded : 16 < inputsIn (stepsOf w) → runWords w s room ≡ refused 17 0
-    unfolding runWords
-    words-crowded h = rw (e, lt-ltb 16 (inputsIn (stepsOf w)) h)
-
-    -- neither
-    pub words-run : inputsIn (stepsOf w) ≤ 16 → runWords w s room ≡ runSteps (stepsOf w) s room
-    unfolding runWords
-    words-run h = rw (e, le-ltb 16 (inputsIn (stepsOf w)) h)
-
--- Words that hold formed steps are run as these steps are.
-pub holds-run : (l : List Step) (w s : List ℕ) (room : ℕ) → Holds l w → runWords w s room ≡ runSteps l s room
-holds-run l w s room h =
-    let f = h .formed in
-    let i : inputsIn (stepsOf w) ≤ 16 = rw (h .kept) (formed-inputs mostSteps l f) in
-    words-run w s room (holds-words l w h) i
-    ∙ ap (λ (x : List Step). runSteps x s room) (h .kept)
 
 -- ---- the sheet
 

@@ -8,5 +8,7 @@ pub mod Numbers
 pub mod Laws
 pub mod Sound
 pub mod Calls
+pub mod Real
+pub mod ValueKinds
 pub mod SheetLines
 pub mod Vectors

@@ -23,7 +23,7 @@ use Rattle.recipe.proofs.Laws as reader
 use Rattle.semantics.specs.Value.{Datum, Outcome, done, refused, asDouble, asWhole, fitsWord, ruleOf, stepValue}
 use Rattle.semantics.specs.Frame.{Frame, onField, wordsFrom, outside, ranged, onWords, readFrame}
 use Rattle.semantics.specs.Frame as frame
-use Rattle.semantics.specs.Run.{Run, completed, onOutcome, runFrom, onFrame, runSteps, onText, runOf}
+use Rattle.semantics.specs.Run.{Run, completed, onOutcome, runFrom, onFrame, callOn, runSteps, onText, runOf}
 use Rattle.semantics.specs.Run as run
 
 -- ---- a step
@@ -137,7 +137,7 @@ steps-numbered (t ∷ ts) k j ws l =
     (λ v. runFrom ts (suc k) (cond (isInput (rowOf (t .opcode))) 1 0 + j) ws (l ++ (v ∷ [])))
     (λ v. steps-numbered ts (suc k) (cond (isInput (rowOf (t .opcode))) 1 0 + j) ws (l ++ (v ∷ [])))
 
-on-frame : {x : Frame} (l : List Step) → FrameNumbered x → RunNumbered (onFrame x l)
+on-frame : {x : Frame} (l : List Step) → FrameNumbered x → RunNumbered (onFrame x (λ ws. runFrom l 0 0 ws []))
 unfolding onFrame
 on-frame l (read ws) = steps-numbered l 0 0 ws []
 on-frame l (unread number place a b) = stops number place (omega arith) (omega arith)
@@ -147,8 +147,8 @@ by-room true x p = stops 40 0 (omega arith) (omega arith)
 by-room false x p = p
 
 by-text : (t s : List ℕ) (room : ℕ) (x : Text) → readText short t ≡ x → RunNumbered (onText x s room)
-unfolding onText runSteps
-by-text t s room (steps l) e = by-room (ltb room (length l)) (onFrame (readFrame l s) l) (on-frame l (frame-numbered l s))
+unfolding onText runSteps callOn
+by-text t s room (steps l) e = by-room (ltb room (length l)) (onFrame (readFrame l s) (λ ws. runFrom l 0 0 ws [])) (on-frame l (frame-numbered l s))
 by-text t s room (text.refused number place) e =
     ⊎-elim
     (λ w. let a = w .0 in stops number place (omega arith) (omega arith))

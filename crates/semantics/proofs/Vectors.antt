@@ -18,7 +18,7 @@ use Rattle.semantics.specs.Value.{ruleOf, stepValue}
 use Rattle.semantics.specs.Range.{Range, doubles, wholes, Ranged, ranged, refused, rangeRule, stepRange}
 use Rattle.semantics.specs.Frame.{onField, onWords, wordsFrom, readFrame}
 use Rattle.semantics.specs.Frame as frame
-use Rattle.semantics.specs.Run.{onOutcome, runFrom, onFrame, runSteps, runOf, answerOf}
+use Rattle.semantics.specs.Run.{onOutcome, runFrom, onFrame, callOn, runSteps, runOf, answerOf}
 use Rattle.semantics.specs.Run as run
 use Rattle.semantics.specs.Sheet.{onRanged, sheetFrom, sheetSteps, onText, sheetOf, linesFrom, bytesOf}
 
@@ -35,11 +35,11 @@ sheet-example = refl
 
 -- its frames: -0.5 gives -1, a whole number; 7.5 is refused 32 at step 0
 pub run-example : answerOf (runOf recipe (bytes "bfe0000000000000") 3) ≡ record { refusal = 0; place = 0; kind = 2; word = 0xffff_ffff_ffff_ffff }
-unfolding recipe bytes lines readText readFrom onNext nextOf judged stepRefusal inputsIn lineAt fromFields rowOf fieldOf digitOf isNan above under magnitude runOf run.onText runSteps onFrame readFrame onWords wordsFrom onField frame.ranged runFrom onOutcome stepValue ruleOf integral parts wholePart lroundRefusal lroundValue encode isInfinite isZero quieted size span climb
+unfolding recipe bytes lines readText readFrom onNext nextOf judged stepRefusal inputsIn lineAt fromFields rowOf fieldOf digitOf isNan above under magnitude runOf run.onText runSteps callOn onFrame readFrame onWords wordsFrom onField frame.ranged runFrom onOutcome stepValue ruleOf integral parts wholePart lroundRefusal lroundValue encode isInfinite isZero quieted size span climb
 run-example = refl
 
 pub refused-example : answerOf (runOf recipe (bytes "401e000000000000") 3) ≡ record { refusal = 32; place = 0; kind = 0; word = 0 }
-unfolding recipe bytes lines readText readFrom onNext nextOf judged stepRefusal inputsIn lineAt fromFields rowOf fieldOf digitOf isNan above under magnitude runOf run.onText runSteps onFrame readFrame onWords wordsFrom onField frame.ranged
+unfolding recipe bytes lines readText readFrom onNext nextOf judged stepRefusal inputsIn lineAt fromFields rowOf fieldOf digitOf isNan above under magnitude runOf run.onText runSteps callOn onFrame readFrame onWords wordsFrom onField frame.ranged
 refused-example = refl
 
 -- ---- the range rules at their corners

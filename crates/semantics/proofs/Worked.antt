@@ -16,7 +16,7 @@ use Rattle.semantics.specs.Value.{Datum, Outcome, done}
 use Rattle.semantics.specs.Value as value
 use Rattle.semantics.specs.Frame.{Frame, words, readFrame}
 use Rattle.semantics.specs.Frame as frame
-use Rattle.semantics.specs.Run.{completed, refused, noValue, stepOn, onOutcome, runFrom, onFrame, runSteps, onText, runOf}
+use Rattle.semantics.specs.Run.{completed, refused, noValue, stepOn, onOutcome, runFrom, onFrame, callOn, runSteps, onText, runOf}
 
 -- ---- the fold
 
@@ -103,17 +103,17 @@ pub record Completed (t s : List ℕ) (room : ℕ) (l : List Datum) : Type 0 whe
   pub worked : Worked ts ws l
 
 module _ (t s : List ℕ) (room : ℕ) (l : List Datum) where
-  by-frame : (ts : List Step) → readText short t ≡ steps ts → length ts ≤ room → (x : Frame) → readFrame ts s ≡ x → onFrame x ts ≡ completed l → Completed t s room l
+  by-frame : (ts : List Step) → readText short t ≡ steps ts → length ts ≤ room → (x : Frame) → readFrame ts s ≡ x → onFrame x (λ ws. runFrom ts 0 0 ws []) ≡ completed l → Completed t s room l
   unfolding onFrame
   by-frame ts e r (words ws) f h = record { ts = ts; ws = ws; text = e; fits = r; frame = f; worked = run-worked ts ws l h }
   by-frame ts e r (frame.refused number place) f h = never l number place h
 
-  by-room : (ts : List Step) → readText short t ≡ steps ts → (b : Bool) → ltb room (length ts) ≡ b → cond b (refused 40 0) (onFrame (readFrame ts s) ts) ≡ completed l → Completed t s room l
+  by-room : (ts : List Step) → readText short t ≡ steps ts → (b : Bool) → ltb room (length ts) ≡ b → cond b (refused 40 0) (onFrame (readFrame ts s) (λ ws. runFrom ts 0 0 ws [])) ≡ completed l → Completed t s room l
   by-room ts e true q h = never l 40 0 h
   by-room ts e false q h = by-frame ts e (ltb-false room (length ts) q) (readFrame ts s) refl h
 
   by-text : (x : Text) → readText short t ≡ x → onText x s room ≡ completed l → Completed t s room l
-  unfolding onText runSteps
+  unfolding onText runSteps callOn
   by-text (steps ts) e h = by-room ts e (ltb room (length ts)) refl h
   by-text (text.refused number place) e h = never l number place h
 

@@ -5,4 +5,3 @@ pub mod Run
 pub mod Range
 pub mod Sheet
 pub mod Promise
-pub mod Packed

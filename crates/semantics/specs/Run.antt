@@ -41,13 +41,16 @@ runFrom (t ∷ ts) k j ws l =
 
 -- ---- the call on steps: 40, then 30, 31 and 32, then 20 to 22
 
-unfoldable pub onFrame : Frame → List Step → Run
-onFrame (words ws) l = runFrom l 0 0 ws []
-onFrame (frame.refused number place) l = refused number place
+unfoldable pub onFrame : Frame → (List ℕ → Run) → Run
+onFrame (words ws) more = more ws
+onFrame (frame.refused number place) more = refused number place
 
--- the steps l on the frame s, with room for so many words
+-- what comes of the steps l on the frame s, with room for so many words, where `more` is what comes of them on the frame's words
+unfoldable pub callOn : (List ℕ → Run) → List Step → List ℕ → ℕ → Run
+callOn more l s room = cond (ltb room (length l)) (refused 40 0) (onFrame (readFrame l s) more)
+
 unfoldable pub runSteps : List Step → List ℕ → ℕ → Run
-runSteps l s room = cond (ltb room (length l)) (refused 40 0) (onFrame (readFrame l s) l)
+runSteps l s room = callOn (λ ws. runFrom l 0 0 ws []) l s room
 
 -- ---- the call on a text: 10 to 17 before all others
 

@@ -7,7 +7,7 @@ use lib.IntN.{ℤ, pos, natAbs, _+ℤ_, _-ℤ_}
 use lib.Signed.{mag, nonNeg}
 use mir.Syntax.{w64}
 use mir.Val.{toZ, ofZ}
-use Rattle.float_format.specs.Format.{binary64, signed, isNan, absolute, negated}
+use Rattle.float_format.specs.Format.{binary64, signed, absolute, negated}
 use Rattle.float_format.specs.Number.{encode, one}
 use Rattle.float_format.specs.Rounding.{integral, lroundRefusal, lroundValue}
 use Rattle.float_format.specs.declared.Direction.the-variants.{Down, Up, TowardZero, HalfAway, HalfEven}
@@ -34,10 +34,6 @@ kindOf (whole z) = Whole
 abbrev pub wordOf : Datum → ℕ
 wordOf (double x) = x
 wordOf (whole z) = ofZ w64 z
-
--- A double of a pattern. No step's value is a NaN: +0 would stand for one, and does for none.
-abbrev pub real : ℕ → Datum
-real x = double (cond (isNan binary64 x) 0 x)
 
 -- an operand as a double's pattern, and as a whole number; a step that was read has operands of the right kinds, and one of another
 -- would count as zero
@@ -68,26 +64,26 @@ ofWhole z = signed binary64 (not (nonNeg z)) (encode 52 (natAbs z * one binary64
 -- numbers
 unfoldable pub ruleOf : ℕ → ℕ → ℕ → ℕ → ℕ → ℤ → ℤ → Outcome
 ruleOf opcode p w x y m n =
-    cond (eqb opcode 0x01) (done (real w))
+    cond (eqb opcode 0x01) (done (double w))
     (cond (eqb opcode 0x02) (done (whole (toZ w64 w)))
-    (cond (eqb opcode 0x03) (done (real p))
+    (cond (eqb opcode 0x03) (done (double p))
     (cond (eqb opcode 0x04) (done (whole (toZ w64 p)))
-    (cond (eqb opcode 0x10) (done (real (integral binary64 Down x)))
-    (cond (eqb opcode 0x11) (done (real (integral binary64 Up x)))
-    (cond (eqb opcode 0x12) (done (real (integral binary64 TowardZero x)))
-    (cond (eqb opcode 0x13) (done (real (integral binary64 HalfAway x)))
-    (cond (eqb opcode 0x14) (done (real (integral binary64 HalfEven x)))
-    (cond (eqb opcode 0x15) (done (real (modfFraction binary64 x)))
-    (cond (eqb opcode 0x16) (done (real (absolute binary64 x)))
-    (cond (eqb opcode 0x17) (done (real (negated binary64 x)))
+    (cond (eqb opcode 0x10) (done (double (integral binary64 Down x)))
+    (cond (eqb opcode 0x11) (done (double (integral binary64 Up x)))
+    (cond (eqb opcode 0x12) (done (double (integral binary64 TowardZero x)))
+    (cond (eqb opcode 0x13) (done (double (integral binary64 HalfAway x)))
+    (cond (eqb opcode 0x14) (done (double (integral binary64 HalfEven x)))
+    (cond (eqb opcode 0x15) (done (double (modfFraction binary64 x)))
+    (cond (eqb opcode 0x16) (done (double (absolute binary64 x)))
+    (cond (eqb opcode 0x17) (done (double (negated binary64 x)))
     (cond (eqb opcode 0x18) (cond (eqb (lroundRefusal binary64 x) 0) (done (whole (lroundValue binary64 x))) (refused 21))
-    (cond (eqb opcode 0x20) (done (real (fmin binary64 x y)))
-    (cond (eqb opcode 0x21) (done (real (fmax binary64 x y)))
-    (cond (eqb opcode 0x22) (cond (eqb (fmodRefusal binary64 x y) 0) (done (real (fmod binary64 x y))) (refused 20))
-    (cond (eqb opcode 0x23) (cond (eqb (ldexpRefusal binary64 x n) 0) (done (real (ldexp binary64 x n))) (refused 21))
+    (cond (eqb opcode 0x20) (done (double (fmin binary64 x y)))
+    (cond (eqb opcode 0x21) (done (double (fmax binary64 x y)))
+    (cond (eqb opcode 0x22) (cond (eqb (fmodRefusal binary64 x y) 0) (done (double (fmod binary64 x y))) (refused 20))
+    (cond (eqb opcode 0x23) (cond (eqb (ldexpRefusal binary64 x n) 0) (done (double (ldexp binary64 x n))) (refused 21))
     (cond (eqb opcode 0x30) (cond (fitsWord (m +ℤ n)) (done (whole (m +ℤ n))) (refused 21))
     (cond (eqb opcode 0x31) (cond (fitsWord (m -ℤ n)) (done (whole (m -ℤ n))) (refused 21))
-    (cond (eqb opcode 0x32) (cond (leb (natAbs m) (2 ^ 53)) (done (real (ofWhole m))) (refused 22))
+    (cond (eqb opcode 0x32) (cond (leb (natAbs m) (2 ^ 53)) (done (double (ofWhole m))) (refused 22))
     (done (whole (pos 0))))))))))))))))))))))
 
 -- a step t's value, a and b being its operands' values

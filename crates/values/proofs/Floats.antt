@@ -9,7 +9,8 @@ use lib.Ieee as Ieee
 use lib.Ieee.Bits.{nanBits-is, nanBits-above, toBits-ofBits}
 use Rattle.float_format.specs.Format.{binary64, isNan}
 use Rattle.float_format.proofs.Patterns.{nan-is}
-use Rattle.semantics.specs.Value.{double, real}
+use Rattle.semantics.specs.Value.{double}
+use Rattle.values.specs.Carried.{real}
 
 nan-same : (x : ℕ) → Ieee.nanBits Ieee.binary64 x ≡ isNan binary64 x
 nan-same x = nanBits-above Ieee.binary64 x ∙ sym (nan-is binary64 x)

@@ -1,2 +1,3 @@
 -- What the contracts of `values` cite.
 pub mod Seen
+pub mod Carried

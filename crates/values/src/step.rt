@@ -10,7 +10,8 @@ ghost use Rattle.float_format.specs.Rounding.{lroundRefusal, lroundValue};
 ghost use Rattle.splitting.specs.Splitting.{modfFraction};
 ghost use Rattle.remainder.specs.Remainder.{fmod, fmodRefusal};
 ghost use Rattle.scaling.specs.Scaling.{ldexp, ldexpRefusal};
-ghost use Rattle.semantics.specs.Value.{real, whole, done, refused, fitsWord, ofWhole, stepValue};
+ghost use Rattle.semantics.specs.Value.{whole, done, refused, fitsWord, ofWhole, stepValue};
+ghost use Rattle.values.specs.Carried.{real, carried};
 ghost use Rattle.values.specs.Seen.{Real, seen, outcomeOf, RealOutcome};
 use super::Outcome;
 use super::Value;
@@ -167,10 +168,10 @@ pub fn double_of(z: i64) -> Outcome
     Outcome::Refused(22)
 }
 
-// The value of the step t, w being the frame's word for it where it is an input, a and b its operands' values.
+// The value of the step t, as a float carries it, w being the frame's word for it where it is an input, a and b its operands' values.
 pub fn step_value(t: Step, w: u64, a: Value, b: Value) -> Outcome
     requires { ⌜ Real a × Real b ⌝ }
-    ensures { λ r. ⌜ (outcomeOf r ≡ stepValue t w (seen a) (seen b)) × RealOutcome r ⌝ }
+    ensures { λ r. ⌜ (outcomeOf r ≡ carried (stepValue t w (seen a) (seen b))) × RealOutcome r ⌝ }
 {
     let x = a.double();
     let y = b.double();

@@ -1,6 +1,7 @@
 // Values and their words.
 ghost use mathlib.Core.Path.{_≡_};
-ghost use Rattle.semantics.specs.Value.{real, whole, asDouble, asWhole, wordOf, kindOf};
+ghost use Rattle.semantics.specs.Value.{whole, asDouble, asWhole, wordOf, kindOf};
+ghost use Rattle.values.specs.Carried.{real};
 ghost use Rattle.values.specs.Seen.{Real, seen};
 use super::Value;
 use float_format::Binary64;

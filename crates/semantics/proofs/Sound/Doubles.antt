@@ -17,7 +17,7 @@ use Rattle.float_format.proofs.Units.{encode-at, encode-low, magnitude-at}
 use Rattle.float_format.proofs.Lead.{Lead, lead, encode-normal}
 use Rattle.float_format.proofs.Patterns.{unsigned-signed}
 use Rattle.float_format.proofs.Order.{magnitude-zero, above-signed, under-signed}
-use Rattle.semantics.specs.Value.{done, refused, real, ofWhole}
+use Rattle.semantics.specs.Value.{done, refused, double, ofWhole}
 use Rattle.semantics.specs.Range.{doubles, wholes, ranged, doubleRange}
 use Rattle.semantics.specs.Range as range
 use Rattle.semantics.proofs.Sound.Kept.{both, Held, Kept, Between, Inside, number-of, held-double}
@@ -86,6 +86,10 @@ double-of (negsuc n) h =
     signed-double true (suc n) (2 ^ 1074) (encode 52 (suc n * 2 ^ 1074)) (exact (suc n) 1074 (omega arith) (omega arith) h) in
     record { number = w .0; above-is = w .1 ∙ nothing (2 ^ 1074); under-is = w .2 }
 
+-- a whole number's double is a number
+pub whole-number : (z : ℤ) → natAbs z ≤ 2 ^ 53 → isNan binary64 (ofWhole z) ≡ false
+whole-number z h = double-of z h .number
+
 -- as many ones, so as many units
 ones-mono : (a b c d u A B C D : ℕ) → A ≡ a * u → B ≡ b * u → C ≡ c * u → D ≡ d * u → a + b ≤ c + d → A + B ≤ C + D
 ones-mono a b c d u A B C D eA eB eC eD h = omega (arith, mul-le-mul-right u h)
@@ -118,15 +122,15 @@ double-between {l} {h} {z} i p q =
     }
 
 pub double-kept : {l h z : ℤ} → Inside l h z
-    → Kept (doubleRange (wholes l h)) (cond (leb (natAbs z) (2 ^ 53)) (done (real (ofWhole z))) (refused 22))
+    → Kept (doubleRange (wholes l h)) (cond (leb (natAbs z) (2 ^ 53)) (done (double (ofWhole z))) (refused 22))
 double-kept {l} {h} {z} i = pick (leb (natAbs l) (2 ^ 53) && leb (natAbs h) (2 ^ 53)) refl
   where
     fitting : (t : Bool) → t ≡ true → Between (ofWhole l) (ofWhole h) (ofWhole z)
-        → Held (doubles (ofWhole l) (ofWhole h)) (cond t (done (real (ofWhole z))) (refused 22))
+        → Held (doubles (ofWhole l) (ofWhole h)) (cond t (done (double (ofWhole z))) (refused 22))
     fitting t e b = rw e (held-double b)
 
     pick : (t : Bool) → (leb (natAbs l) (2 ^ 53) && leb (natAbs h) (2 ^ 53)) ≡ t
-        → Kept (cond t (ranged (doubles (ofWhole l) (ofWhole h))) (range.refused 22)) (cond (leb (natAbs z) (2 ^ 53)) (done (real (ofWhole z))) (refused 22))
+        → Kept (cond t (ranged (doubles (ofWhole l) (ofWhole h))) (range.refused 22)) (cond (leb (natAbs z) (2 ^ 53)) (done (double (ofWhole z))) (refused 22))
     pick true e =
         let w : (leb (natAbs l) (2 ^ 53) ≡ true) × (leb (natAbs h) (2 ^ 53) ≡ true) = both (leb (natAbs l) (2 ^ 53)) (leb (natAbs h) (2 ^ 53)) e in
         let p : natAbs l ≤ 2 ^ 53 = leb-true (natAbs l) (2 ^ 53) (w .0) in

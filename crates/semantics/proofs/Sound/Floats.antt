@@ -18,7 +18,7 @@ use Rattle.float_format.proofs.Laws.{result-finite, monotone}
 use Rattle.ordering.specs.Ordering.{fmin, fmax}
 use Rattle.ordering.proofs.MinMax.{Numbers, fmin-first, fmax-first, fmin-mono, fmax-mono}
 use Rattle.float_format.proofs.Units.{lt-or-ge, magnitude-mono, magnitude-mono-le}
-use Rattle.semantics.specs.Value.{done, real}
+use Rattle.semantics.specs.Value.{done, double}
 use Rattle.semantics.specs.Range.{doubles, isNegative, isPositive, absoluteRange}
 use Rattle.semantics.proofs.Sound.Kept.{Held, Between, valid, rest-of, number-of, zero-number, held-double}
 
@@ -192,11 +192,11 @@ module _ {l h x : ℕ} (b : Between l h x) where
         upto = omega (arith, absolute-sides x, most-from);
       }
 
-  pub absolute-held : Held (absoluteRange (doubles l h)) (done (real (absolute binary64 x)))
+  pub absolute-held : Held (absoluteRange (doubles l h)) (done (double (absolute binary64 x)))
   absolute-held = pick (isNegative l) (isPositive h) refl refl
     where
       pick : (s t : Bool) → isNegative l ≡ s → isPositive h ≡ t
-          → Held (cond s (cond t (doubles 0 most) (doubles (absolute binary64 h) (absolute binary64 l))) (doubles (absolute binary64 l) (absolute binary64 h))) (done (real (absolute binary64 x)))
+          → Held (cond s (cond t (doubles 0 most) (doubles (absolute binary64 h) (absolute binary64 l))) (doubles (absolute binary64 l) (absolute binary64 h))) (done (double (absolute binary64 x)))
       pick true true e g = held-double absolute-around
       pick true false e g = held-double (absolute-down b g)
       pick false t e g = held-double (absolute-up b e)

@@ -8,11 +8,11 @@ use native.Mathlib.Nat.{eq-or-lt-of-le, mod-le}
 use native.Mathlib.Omega.{arith}
 use lib.Dec.{eqb}
 use borrow.Author.Tests.{ltb-true, ltb-false, ne-eqb, eqb-false}
-use Rattle.float_format.specs.Format.{binary64, infinity, negative, unsigned, isNan, isInfinite, absolute, negated}
+use Rattle.float_format.specs.Format.{binary64, infinity, negative, unsigned, isNan, isInfinite, isZero, absolute, negated}
 use Rattle.float_format.specs.Number.{magnitude, one, above, under, AtMost, below}
 use Rattle.float_format.proofs.Units.{lt-or-ge, magnitude-at, magnitude-mono-le}
 use Rattle.float_format.proofs.Patterns.{infinite-is, unsigned-signed}
-use Rattle.float_format.proofs.Order.{unitsOf, magnitude-zero, above-at, under-at, above-negated, under-negated}
+use Rattle.float_format.proofs.Order.{at-most-refl, unitsOf, magnitude-zero, above-at, under-at, above-negated, under-negated}
 use Rattle.float_format.proofs.Laws.{one-pos}
 use Rattle.ordering.specs.Ordering.{fmin, fmax}
 use Rattle.ordering.proofs.MinMax.{fmin-first}
@@ -21,8 +21,9 @@ use Rattle.splitting.specs.Splitting.{modfFraction}
 use Rattle.splitting.proofs.Fraction.{fraction-of-infinity}
 use Rattle.splitting.proofs.Laws.{fraction-sign, fraction-number, fraction-units, fraction-below-one}
 use Rattle.remainder.specs.Remainder.{fmod, fmodRefusal}
-use Rattle.remainder.proofs.Laws.{Operands, fmod-finite, fmod-sign, fmod-below, fmod-at-most, fmod-infinity}
-use Rattle.semantics.specs.Value.{done, refused, real}
+use Rattle.remainder.proofs.Laws.{Operands, fmod-finite, fmod-sign, fmod-below, fmod-at-most, fmod-infinity, fmod-refuses}
+use Rattle.recipe.proofs.Counts.{positive}
+use Rattle.semantics.specs.Value.{done, refused, double}
 use Rattle.semantics.specs.Range.{doubles, ranged, isNegative, isPositive, minusOne, plusOne, underOne, overMinusOne, fractionRange, greatest, fmodRange}
 use Rattle.semantics.specs.Range as range
 use Rattle.semantics.proofs.Sound.Kept.{never, no-or, Held, Kept, Between, valid, rest-of, number-of, zero-number, held-double}
@@ -155,7 +156,7 @@ module _ {l h x : ℕ} (b : Between l h x) where
   high-above true = (b .high-number, λ e. omega (arith, positive-yes h e, one-side h, one-side x, b .upto, c .less-under, c .less-above))
   high-above false = (under-number, λ e. omega (arith, under-sides, small))
 
-  pub fraction-held : Held (fractionRange (doubles l h)) (done (real (modfFraction binary64 x)))
+  pub fraction-held : Held (fractionRange (doubles l h)) (done (double (modfFraction binary64 x)))
   fraction-held =
       held-double
       (ends b c (cond (below binary64 minusOne l) l overMinusOne) (cond (below binary64 h plusOne) h underOne)
@@ -239,7 +240,7 @@ module _ {l h x l′ h′ y : ℕ} (b : Between l h x) (b′ : Between l′ h′
 
     remainder-done : Held
         (doubles (cond (isNegative l) (negated binary64 lower) 0) (cond (isPositive h) (fmin binary64 h M) 0))
-        (cond (eqb (fmodRefusal binary64 x y) 0) (done (real (fmod binary64 x y))) (refused 20))
+        (cond (eqb (fmodRefusal binary64 x y) 0) (done (double (fmod binary64 x y))) (refused 20))
     remainder-done = rw accepted (held-double remainder-between)
 
   nonzero : (isPositive l′ ≡ true) ⊎ (isNegative h′ ≡ true) → 0 < unsigned binary64 y
@@ -251,7 +252,7 @@ module _ {l h x l′ h′ y : ℕ} (b : Between l h x) (b′ : Between l′ h′
           ⊎-elim (λ e. omega (arith, sides-units y, positive-yes l′ e, b′ .from)) (λ e. omega (arith, sides-units y, negative-yes h′ e, b′ .upto)) w
 
   pub fmod-kept : Kept (fmodRange (doubles l h) (doubles l′ h′))
-      (cond (eqb (fmodRefusal binary64 x y) 0) (done (real (fmod binary64 x y))) (refused 20))
+      (cond (eqb (fmodRefusal binary64 x y) 0) (done (double (fmod binary64 x y))) (refused 20))
   fmod-kept = pick ((isInfinite binary64 l || isInfinite binary64 h) || (not (isPositive l′) && not (isNegative h′))) refl
     where
       pick : (t : Bool) → ((isInfinite binary64 l || isInfinite binary64 h) || (not (isPositive l′) && not (isNegative h′))) ≡ t
@@ -260,7 +261,7 @@ module _ {l h x l′ h′ y : ℕ} (b : Between l h x) (b′ : Between l′ h′
           (ranged (doubles
           (cond (isNegative l) (negated binary64 (fmin binary64 (absolute binary64 l) (greatest (doubles l′ h′)))) 0)
           (cond (isPositive h) (fmin binary64 h (greatest (doubles l′ h′))) 0))))
-          (cond (eqb (fmodRefusal binary64 x y) 0) (done (real (fmod binary64 x y))) (refused 20))
+          (cond (eqb (fmodRefusal binary64 x y) 0) (done (double (fmod binary64 x y))) (refused 20))
       pick true e = tt
       pick false e =
           let p : ((isInfinite binary64 l || isInfinite binary64 h) ≡ false) × ((not (isPositive l′) && not (isNegative h′)) ≡ false) = no-or (isInfinite binary64 l || isInfinite binary64 h) (not (isPositive l′) && not (isNegative h′)) e in
@@ -268,3 +269,21 @@ module _ {l h x l′ h′ y : ℕ} (b : Between l h x) (b′ : Between l′ h′
           remainder-done
           (between-finite l h x (finite-end l (b .low-number) (q .0)) (finite-end h (b .high-number) (q .1)) (b .from) (b .upto))
           (nonzero (no-holds (isPositive l′) (isNegative h′) (p .1)))
+
+-- ---- no NaN, of no ranges
+
+same : (x : ℕ) → isNan binary64 x ≡ false → Between x x x
+same x n = record { low-number = n; high-number = n; number = n; from = at-most-refl binary64 x; upto = at-most-refl binary64 x }
+
+-- fmod of numbers, where it is not refused, is a number
+pub fmod-number : (x y : ℕ) → isNan binary64 x ≡ false → isNan binary64 y ≡ false → fmodRefusal binary64 x y ≡ 0 → isNan binary64 (fmod binary64 x y) ≡ false
+fmod-number x y nx ny e = pick (isInfinite binary64 x) (isZero binary64 y) refl refl
+  where
+    no : (isInfinite binary64 x ≡ true) ⊎ (isZero binary64 y ≡ true) → ⊥
+    no h = omega (arith, fmod-refuses binary64 x y .1 (nx, ny, h))
+
+    pick : (s t : Bool) → isInfinite binary64 x ≡ s → isZero binary64 y ≡ t → isNan binary64 (fmod binary64 x y) ≡ false
+    pick true t p q = absurd (no (inl p))
+    pick false true p q = absurd (no (inr q))
+    pick false false p q =
+        remainder-less (same x nx) (same y ny) (finite-end x nx p) (positive (unsigned binary64 y) (eqb-false (unsigned binary64 y) 0 (sym (zero-is binary64 y) ∙ q))) .0

@@ -12,7 +12,7 @@ use Rattle.float_format.specs.Format.{Valid, binary64, infinity, unsigned, isNa
 use Rattle.float_format.specs.Number.{AtMost}
 use Rattle.float_format.proofs.Patterns.{nan-is}
 use Rattle.float_format.proofs.Order.{at-most-refl}
-use Rattle.semantics.specs.Value.{Datum, double, whole, real, asDouble, asWhole, Outcome, done}
+use Rattle.semantics.specs.Value.{Datum, double, whole, asDouble, asWhole, Outcome, done}
 use Rattle.semantics.specs.Range.{Range, doubles, wholes, low, high, least, most, Ranged, ranged}
 use Rattle.semantics.specs.Range as range
 use Rattle.semantics.specs.Promise.{Lies, Proper}
@@ -66,16 +66,12 @@ number-of x l = nan-is binary64 x ∙ le-ltb (infinity binary64) (unsigned binar
 pub zero-number : isNan binary64 0 ≡ false
 zero-number = nan-is binary64 0
 
--- a number is its own value
-pub real-is : (x : ℕ) → isNan binary64 x ≡ false → real x ≡ double x
-real-is x e = ap (λ (t : Bool). double (cond t 0 x)) e
-
-pub held-double : {l h x : ℕ} → Between l h x → Held (doubles l h) (done (real x))
+pub held-double : {l h x : ℕ} → Between l h x → Held (doubles l h) (done (double x))
 unfolding Lies Proper
 held-double {l} {h} {x} b =
     record {
       value = double x;
-      is = ap done (real-is x (b .number));
+      is = refl;
       lies = (b .number, b .from, b .upto);
       proper = (b .low-number, b .high-number);
     }

@@ -23,9 +23,8 @@ use Rattle.semantics.specs.Value as value
 use Rattle.semantics.specs.Range.{Range, doubles, wholes, low, high, least, most, isNegative, isPositive, absoluteRange, lroundRange, holdsZero, infiniteEnd, fmodRange, lowPower, highPower, ldexpRange, wholeRange, doubleRange, Ranged, ranged, rangeRule, stepRange}
 use Rattle.semantics.specs.Range as range
 use Rattle.semantics.specs.Promise.{Lies}
-use Rattle.semantics.proofs.Rules.{Unlisted}
+use Rattle.semantics.proofs.Rules.{Unlisted, by-opcode}
 use Rattle.semantics.proofs.Sound.Kept.{never}
-use Rattle.semantics.proofs.Sound.Steps.{at}
 
 -- a value that lies in a range has its kind
 pub lies-kind : (r : Range) (v : Datum) → Lies r v → value.kindOf v ≡ range.kindOf r
@@ -54,7 +53,7 @@ three false t a b c d e f = refl
 past : (k c : ℕ) → c ≤ k → (k ≡ c → ⊥) → c < k
 past k c l n = omega arith
 
-unlisted-row : (k : ℕ) → Unlisted k → rowOf k ≡ Unknown
+pub unlisted-row : (k : ℕ) → Unlisted k → rowOf k ≡ Unknown
 unlisted-row k h =
     ⊎-elim (λ l. before-10 k l (h .0 .0 .0 .0 .0 .0 .0 .0 .0 .0 .0 .0 .0 .0 .0 .0 .0 .0 .0 .1) (h .0 .0 .0 .0 .0 .0 .0 .0 .0 .0 .0 .0 .0 .0 .0 .0 .0 .0 .1) (h .0 .0 .0 .0 .0 .0 .0 .0 .0 .0 .0 .0 .0 .0 .0 .0 .0 .1) (h .0 .0 .0 .0 .0 .0 .0 .0 .0 .0 .0 .0 .0 .0 .0 .0 .1))
     (λ g. ⊎-elim (λ l. before-20 k (from-16 g) l) (λ g. ⊎-elim (λ l. before-30 k (from-32 g) l) (λ g. after-32 k (from-48 g)) (lt-or-ge k 0x30)) (lt-or-ge k 0x20))
@@ -98,27 +97,29 @@ module _ (p q : ℕ) (a b : Range) where
   pub rule-kind : (k : ℕ) → Good k
   unfolding rangeRule rowOf
   rule-kind k =
-      at Good k 0x01 (λ e. refl) (λ n1.
-      at Good k 0x02 (λ e. refl) (λ n2.
-      at Good k 0x03 (λ e. refl) (λ n3.
-      at Good k 0x04 (λ e. refl) (λ n4.
-      at Good k 0x10 (λ e. refl) (λ n5.
-      at Good k 0x11 (λ e. refl) (λ n6.
-      at Good k 0x12 (λ e. refl) (λ n7.
-      at Good k 0x13 (λ e. refl) (λ n8.
-      at Good k 0x14 (λ e. refl) (λ n9.
-      at Good k 0x15 (λ e. refl) (λ n10.
-      at Good k 0x16 (λ e. absolute-kind) (λ n11.
-      at Good k 0x17 (λ e. refl) (λ n12.
-      at Good k 0x18 (λ e. lround-kind) (λ n13.
-      at Good k 0x20 (λ e. refl) (λ n14.
-      at Good k 0x21 (λ e. refl) (λ n15.
-      at Good k 0x22 (λ e. fmod-kind) (λ n16.
-      at Good k 0x23 (λ e. ldexp-kind) (λ n17.
-      at Good k 0x30 (λ e. whole-kind (least a +ℤ least b) (most a +ℤ most b)) (λ n18.
-      at Good k 0x31 (λ e. whole-kind (least a -ℤ most b) (most a -ℤ least b)) (λ n19.
-      at Good k 0x32 (λ e. double-kind) (λ n20.
-      good-other k ((((((((((((((((((((tt, n1), n2), n3), n4), n5), n6), n7), n8), n9), n10), n11), n12), n13), n14), n15), n16), n17), n18), n19), n20)))))))))))))))))))))
+      by-opcode Good
+      (λ e. refl)
+      (λ e. refl)
+      (λ e. refl)
+      (λ e. refl)
+      (λ e. refl)
+      (λ e. refl)
+      (λ e. refl)
+      (λ e. refl)
+      (λ e. refl)
+      (λ e. refl)
+      (λ e. absolute-kind)
+      (λ e. refl)
+      (λ e. lround-kind)
+      (λ e. refl)
+      (λ e. refl)
+      (λ e. fmod-kind)
+      (λ e. ldexp-kind)
+      (λ e. whole-kind (least a +ℤ least b) (most a +ℤ most b))
+      (λ e. whole-kind (least a -ℤ most b) (most a -ℤ least b))
+      (λ e. double-kind)
+      good-other
+      k
 
 -- a range of a step that the table has, has the step's kind
 pub step-kind : (t : Step) (a b : Range) → isUnknown (rowOf (t .opcode)) ≡ false → HasKind (text.kindOf t) (stepRange t a b)

@@ -22,7 +22,7 @@ use Rattle.semantics.specs.Range.{Range, Ranged, ranged, stepRange}
 use Rattle.semantics.specs.Range as range
 use Rattle.semantics.specs.Frame.{Frame, words, outside, onWords, wordsFrom, readFrame}
 use Rattle.semantics.specs.Frame as frame
-use Rattle.semantics.specs.Run.{Run, completed, noValue, onOutcome, runFrom, onFrame, runSteps, answerOf, wordsOf}
+use Rattle.semantics.specs.Run.{Run, completed, noValue, onOutcome, runFrom, onFrame, callOn, runSteps, answerOf, wordsOf}
 use Rattle.semantics.specs.Sheet.{passed, noRange, onRanged, sheetFrom}
 use Rattle.semantics.specs.Promise.{Lies, Proper, Promise, TextPromise}
 use Rattle.semantics.proofs.Calls.{run-read}
@@ -83,11 +83,11 @@ abbrev pub Declared : List Step → Type 0
 Declared ls = (k : ℕ) → k < length ls → badRange (rowOf (getD ls k noStep .opcode)) (getD ls k noStep) ≡ false
 
 -- how many inputs are before the next step
-abbrev following : Step → ℕ → ℕ
+abbrev pub following : Step → ℕ → ℕ
 following t j = cond (isInput (rowOf (t .opcode))) 1 0 + j
 
 -- a frame that is not turned down at the first step is not turned down after it, and its words are kept
-frame-step : (t : Step) (ts : List Step) (k j : ℕ) (ws us : List ℕ) → frame.ranged (t ∷ ts) k j ws ≡ words us
+pub frame-step : (t : Step) (ts : List Step) (k j : ℕ) (ws us : List ℕ) → frame.ranged (t ∷ ts) k j ws ≡ words us
     → (outside (rowOf (t .opcode)) t (getD ws j 0) ≡ false) × (frame.ranged ts (suc k) (following t j) ws ≡ words us)
 unfolding frame.ranged
 frame-step t ts k j ws us e = pick (outside (rowOf (t .opcode)) t (getD ws j 0)) e
@@ -140,7 +140,7 @@ module _ (ws : List ℕ) (end : List Range) where
 -- ---- the whole recipe and the whole frame
 
 -- the words of a frame that was read lie in their declared ranges
-frame-read : (ls : List Step) (s ws : List ℕ) → readFrame ls s ≡ words ws → frame.ranged ls 0 0 ws ≡ words ws
+pub frame-read : (ls : List Step) (s ws : List ℕ) → readFrame ls s ≡ words ws → frame.ranged ls 0 0 ws ≡ words ws
 unfolding readFrame onWords
 frame-read ls s ws e = pick (eqb (length s) (16 * inputsIn ls)) (wordsFrom s (inputsIn ls) 0 []) e
   where
@@ -165,7 +165,7 @@ words-complete s ls ws rs e g f =
 -- a run on a frame that was read, with room
 run-completes : (ls : List Step) (s ws : List ℕ) (room : ℕ) (vs : List Datum) → length ls ≤ room → readFrame ls s ≡ words ws
     → runFrom ls 0 0 ws [] ≡ completed vs → runSteps ls s room ≡ completed vs
-unfolding runSteps onFrame
+unfolding runSteps callOn onFrame
 run-completes ls s ws room vs h f g = rw (le-ltb room (length ls) h, f) g
 
 -- ---- kinds

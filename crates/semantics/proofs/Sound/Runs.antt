@@ -18,7 +18,7 @@ use Rattle.recipe.specs.Answer.{Formed}
 use Rattle.semantics.specs.Range.{Range}
 use Rattle.semantics.specs.Frame.{Frame, words, outside, onField, wordsFrom, onWords, readFrame}
 use Rattle.semantics.specs.Frame as frame
-use Rattle.semantics.specs.Run.{Run, onFrame, runSteps}
+use Rattle.semantics.specs.Run.{Run, runFrom, onFrame, callOn, runSteps}
 use Rattle.semantics.specs.Run as run
 use Rattle.semantics.specs.Sheet.{passed, sheetFrom}
 use Rattle.semantics.proofs.Sound.Kept.{never}
@@ -70,16 +70,16 @@ pub data Answered (rs : List Range) (n : ℕ) (o : Run) : Type 0 where
   turned-down : (number place : ℕ) → o ≡ run.refused number place → (number ≡ 40) ⊎ ((30 ≤ number) × (number ≤ 32)) → Answered rs n o
 
 module _ (s : List ℕ) (room : ℕ) (ls : List Step) (rs : List Range) (e : Formed mostSteps ls) (g : sheetFrom ls 0 [] ≡ passed rs) where
-  by-frame : (x : Frame) → readFrame ls s ≡ x → Answered rs (length ls) (onFrame x ls)
+  by-frame : (x : Frame) → readFrame ls s ≡ x → Answered rs (length ls) (onFrame x (λ ws. runFrom ls 0 0 ws []))
   unfolding onFrame
   by-frame (words ws) f = in-ranges (words-complete s ls ws rs e g f)
   by-frame (frame.refused number place) f = turned-down number place refl (inr (frame-number ls s number place f))
 
-  by-room : (b : Bool) → Answered rs (length ls) (cond b (run.refused 40 0) (onFrame (readFrame ls s) ls))
+  by-room : (b : Bool) → Answered rs (length ls) (cond b (run.refused 40 0) (onFrame (readFrame ls s) (λ ws. runFrom ls 0 0 ws [])))
   by-room true = turned-down 40 0 refl (inl refl)
   by-room false = by-frame (readFrame ls s) refl
 
   -- The sheet passed, so a run on any frame completes with each value in its step's range, or is refused 40, 30, 31 or 32.
   pub run-sound : Answered rs (length ls) (runSteps ls s room)
-  unfolding runSteps
+  unfolding runSteps callOn
   run-sound = by-room (ltb room (length ls))

@@ -15,7 +15,7 @@ use Rattle.float_format.specs.Number.{above, under, AtMost}
 use Rattle.float_format.proofs.Order.{at-most-trans, above-at, under-at, above-negated, under-negated, unsigned-negated, negative-negated}
 use Rattle.scaling.specs.Scaling.{scaled, ldexp, ldexpRefusal}
 use Rattle.scaling.proofs.Laws.{refused-is-infinite, ldexp-not-nan, ldexp-monotone, ldexp-grows, ldexp-shrinks}
-use Rattle.semantics.specs.Value.{done, refused, real}
+use Rattle.semantics.specs.Value.{done, refused, double}
 use Rattle.semantics.specs.Range.{doubles, wholes, ranged, isNegative, isPositive, ldexpRange}
 use Rattle.semantics.specs.Range as range
 use Rattle.semantics.proofs.Sound.Kept.{no-or, Held, Kept, Between, Inside, valid, rest-of, number-of, held-double}
@@ -75,6 +75,10 @@ refused-or-not x n = pick (not (isNan binary64 x) && not (isInfinite binary64 x)
     pick true = inr refl
     pick false = inl refl
 
+-- ldexp of a number is a number
+pub ldexp-number : (y : ℕ) (k : ℤ) → isNan binary64 y ≡ false → isNan binary64 (ldexp binary64 y k) ≡ false
+ldexp-number y k e = number-of (ldexp binary64 y k) (ldexp-not-nan binary64 valid y k (rest-of y e))
+
 -- a finite number that is not refused has a finite answer, and the other way round
 answer-finite : (x : ℕ) (n : ℤ) → unsigned binary64 x < infinity binary64 → ldexpRefusal binary64 x n ≡ 0
     → unsigned binary64 (ldexp binary64 x n) < infinity binary64
@@ -105,9 +109,6 @@ module _ {l h x : ℕ} (b : Between l h x) {i j n : ℤ} (w : Inside i j n) wher
       power-grows h (b .high-number) n j (ordered (w .upto)) (omega arith)
   high-power false e = power-falls h (b .high-number) i n (ordered (w .from)) (positive-no h e)
 
-  answer-number : (y : ℕ) (k : ℤ) → isNan binary64 y ≡ false → isNan binary64 (ldexp binary64 y k) ≡ false
-  answer-number y k e = number-of (ldexp binary64 y k) (ldexp-not-nan binary64 valid y k (rest-of y e))
-
   abbrev lp : ℤ
   lp = cond (isNegative l) j i
 
@@ -117,16 +118,16 @@ module _ {l h x : ℕ} (b : Between l h x) {i j n : ℤ} (w : Inside i j n) wher
   pub scaled-between : Between (ldexp binary64 l lp) (ldexp binary64 h hp) (ldexp binary64 x n)
   scaled-between =
       record {
-        low-number = answer-number l lp (b .low-number);
-        high-number = answer-number h hp (b .high-number);
-        number = answer-number x n (b .number);
+        low-number = ldexp-number l lp (b .low-number);
+        high-number = ldexp-number h hp (b .high-number);
+        number = ldexp-number x n (b .number);
         from = at-most-trans binary64 (ldexp binary64 l lp) (ldexp binary64 l n) (ldexp binary64 x n) (low-power (isNegative l) refl) (ldexp-monotone binary64 valid l x n (rest-of l (b .low-number)) (rest-of x (b .number)) (b .from));
         upto = at-most-trans binary64 (ldexp binary64 x n) (ldexp binary64 h n) (ldexp binary64 h hp) (ldexp-monotone binary64 valid x h n (rest-of x (b .number)) (rest-of h (b .high-number)) (b .upto)) (high-power (isPositive h) refl);
       }
 
   scaled-held : unsigned binary64 l < infinity binary64 → unsigned binary64 h < infinity binary64
       → ldexpRefusal binary64 l lp ≡ 0 → ldexpRefusal binary64 h hp ≡ 0
-      → Held (doubles (ldexp binary64 l lp) (ldexp binary64 h hp)) (cond (eqb (ldexpRefusal binary64 x n) 0) (done (real (ldexp binary64 x n))) (refused 21))
+      → Held (doubles (ldexp binary64 l lp) (ldexp binary64 h hp)) (cond (eqb (ldexpRefusal binary64 x n) 0) (done (double (ldexp binary64 x n))) (refused 21))
   scaled-held fl fh pl ph =
       let fx : unsigned binary64 x < infinity binary64 = between-finite l h x fl fh (b .from) (b .upto) in
       let fr : unsigned binary64 (ldexp binary64 x n) < infinity binary64 =
@@ -134,12 +135,12 @@ module _ {l h x : ℕ} (b : Between l h x) {i j n : ℤ} (w : Inside i j n) wher
       rw (finite-answer x n fx fr) (held-double scaled-between)
 
   pub ldexp-kept : Kept (ldexpRange (doubles l h) (wholes i j))
-      (cond (eqb (ldexpRefusal binary64 x n) 0) (done (real (ldexp binary64 x n))) (refused 21))
+      (cond (eqb (ldexpRefusal binary64 x n) 0) (done (double (ldexp binary64 x n))) (refused 21))
   ldexp-kept = pick (((isInfinite binary64 l || isInfinite binary64 h) || not (eqb (ldexpRefusal binary64 l lp) 0)) || not (eqb (ldexpRefusal binary64 h hp) 0)) refl
     where
       pick : (t : Bool) → (((isInfinite binary64 l || isInfinite binary64 h) || not (eqb (ldexpRefusal binary64 l lp) 0)) || not (eqb (ldexpRefusal binary64 h hp) 0)) ≡ t
           → Kept (cond t (range.refused 21) (ranged (doubles (ldexp binary64 l lp) (ldexp binary64 h hp))))
-          (cond (eqb (ldexpRefusal binary64 x n) 0) (done (real (ldexp binary64 x n))) (refused 21))
+          (cond (eqb (ldexpRefusal binary64 x n) 0) (done (double (ldexp binary64 x n))) (refused 21))
       pick true e = tt
       pick false e =
           let p : (((isInfinite binary64 l || isInfinite binary64 h) || not (eqb (ldexpRefusal binary64 l lp) 0)) ≡ false) × (not (eqb (ldexpRefusal binary64 h hp) 0) ≡ false) =

@@ -1,14 +1,12 @@
 -- One step: the range that the sheet's rule gives holds the value that the run's rule gives, and where the sheet's rule refuses nothing
 -- the run's does not. By the opcode, one rule after the other. Assumes nothing.
-use mathlib.Core.Path.{_≡_, refl, sym}
-use mathlib.Core.Bool.{Bool, true, false}
+use mathlib.Core.Path.{_≡_, sym}
+use mathlib.Core.Bool.{false}
 use mathlib.Core.List.{List}
 use Prim.Native.Nat.{ℕ}
-use lib.Dec.{eqb}
 use lib.IntN.{pos}
 use mir.Syntax.{w64}
 use mir.Val.{toZ}
-use borrow.Author.Tests.{eqb-true, eqb-false}
 use Rattle.float_format.specs.declared.Direction.the-variants.{Down, Up, TowardZero, HalfAway, HalfEven}
 use Rattle.recipe.specs.declared.Step.{Step}
 use Rattle.recipe.specs.Table.{rowOf}
@@ -18,7 +16,7 @@ use Rattle.semantics.specs.Value.{Datum, asDouble, asWhole, ruleOf, step
 use Rattle.semantics.specs.Range.{Range, low, high, least, most, ranged, rangeRule, stepRange}
 use Rattle.semantics.specs.Frame.{outside}
 use Rattle.semantics.specs.Promise.{Lies, Proper}
-use Rattle.semantics.proofs.Rules.{Unlisted, unlisted, range-unlisted}
+use Rattle.semantics.proofs.Rules.{Unlisted, unlisted, range-unlisted, by-opcode}
 use Rattle.semantics.proofs.Sound.Kept.{Held, Kept, Between, Inside, held-double, held-whole, between, inside}
 use Rattle.semantics.proofs.Sound.Floats.{rounded, negate, smaller, larger, absolute-held}
 use Rattle.semantics.proofs.Sound.Wholes.{sum, difference, whole-kept}
@@ -29,14 +27,6 @@ use Rattle.semantics.proofs.Sound.Scaled.{ldexp-kept}
 use Rattle.semantics.proofs.Sound.Doubles.{double-kept}
 
 -- ---- by the opcode
-
--- an opcode c, or another
-pub at : (P : ℕ → Type 0) (k c : ℕ) → P c → ((k ≡ c → ⊥) → P k) → P k
-at P k c same other = pick (eqb k c) refl
-  where
-    pick : (t : Bool) → eqb k c ≡ t → P k
-    pick true e = rw (eqb-true k c e) same
-    pick false e = other (eqb-false k c e)
 
 module _ (t : Step) (w : ℕ) (r s : Range) (a b : Datum) (la : Lies r a) (lb : Lies s b) (pa : Proper r) (pb : Proper s) where
   x : Between (low r) (high r) (asDouble a)
@@ -65,27 +55,29 @@ module _ (t : Step) (w : ℕ) (r s : Range) (a b : Datum) (la : Lies r a) (lb : 
   good : (k : ℕ) → Good k
   unfolding rangeRule ruleOf rowOf
   good k =
-      at Good k 0x01 (λ e g. held-double (double-input (t .p) (t .q) w e g)) (λ n1.
-      at Good k 0x02 (λ e g. held-whole (whole-input (t .p) (t .q) w g)) (λ n2.
-      at Good k 0x03 (λ e g. held-double (double-constant (t .p) e)) (λ n3.
-      at Good k 0x04 (λ e g. held-whole (whole-constant (toZ w64 (t .p)))) (λ n4.
-      at Good k 0x10 (λ e g. held-double (rounded Down x)) (λ n5.
-      at Good k 0x11 (λ e g. held-double (rounded Up x)) (λ n6.
-      at Good k 0x12 (λ e g. held-double (rounded TowardZero x)) (λ n7.
-      at Good k 0x13 (λ e g. held-double (rounded HalfAway x)) (λ n8.
-      at Good k 0x14 (λ e g. held-double (rounded HalfEven x)) (λ n9.
-      at Good k 0x15 (λ e g. fraction-held x) (λ n10.
-      at Good k 0x16 (λ e g. absolute-held x) (λ n11.
-      at Good k 0x17 (λ e g. held-double (negate x)) (λ n12.
-      at Good k 0x18 (λ e g. lround-kept x) (λ n13.
-      at Good k 0x20 (λ e g. held-double (smaller x y)) (λ n14.
-      at Good k 0x21 (λ e g. held-double (larger x y)) (λ n15.
-      at Good k 0x22 (λ e g. fmod-kept x y) (λ n16.
-      at Good k 0x23 (λ e g. ldexp-kept x n) (λ n17.
-      at Good k 0x30 (λ e g. whole-kept (sum m n)) (λ n18.
-      at Good k 0x31 (λ e g. whole-kept (difference m n)) (λ n19.
-      at Good k 0x32 (λ e g. double-kept m) (λ n20.
-      good-other k ((((((((((((((((((((tt, n1), n2), n3), n4), n5), n6), n7), n8), n9), n10), n11), n12), n13), n14), n15), n16), n17), n18), n19), n20)))))))))))))))))))))
+      by-opcode Good
+      (λ e g. held-double (double-input (t .p) (t .q) w e g))
+      (λ e g. held-whole (whole-input (t .p) (t .q) w g))
+      (λ e g. held-double (double-constant (t .p) e))
+      (λ e g. held-whole (whole-constant (toZ w64 (t .p))))
+      (λ e g. held-double (rounded Down x))
+      (λ e g. held-double (rounded Up x))
+      (λ e g. held-double (rounded TowardZero x))
+      (λ e g. held-double (rounded HalfAway x))
+      (λ e g. held-double (rounded HalfEven x))
+      (λ e g. fraction-held x)
+      (λ e g. absolute-held x)
+      (λ e g. held-double (negate x))
+      (λ e g. lround-kept x)
+      (λ e g. held-double (smaller x y))
+      (λ e g. held-double (larger x y))
+      (λ e g. fmod-kept x y)
+      (λ e g. ldexp-kept x n)
+      (λ e g. whole-kept (sum m n))
+      (λ e g. whole-kept (difference m n))
+      (λ e g. double-kept m)
+      good-other
+      k
 
   pub step-kept : badRange (rowOf (t .opcode)) t ≡ false → outside (rowOf (t .opcode)) t w ≡ false → Kept (stepRange t r s) (stepValue t w a b)
   unfolding stepRange stepValue

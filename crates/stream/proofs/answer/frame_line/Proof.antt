@@ -2,9 +2,6 @@
 use mathlib.Core.Path.{_∙_, sym, ap}
 use denote.Ref.{now}
 use borrow.Author.Needs.{needs}
-use Rattle.recipe.specs.Text.{mostSteps}
-use Rattle.semantics.specs.Run.{answerOf}
-use Rattle.semantics.proofs.Calls.{holds-run}
 use Rattle.programs.specs.Output.{answerLine}
 use Rattle.programs.proofs.Answers.{frame-long, frame-short}
 use Rattle.stream.proofs.answer.frame_line.Statement.{statement}
@@ -37,7 +34,7 @@ returns-2 : tie.Need-returns-2
 returns-2 c =
     let a = c .before .before .before .before .before .before .before .before .before .before .before .args in (
       c .before .before .answer-line .ensures .0,
-      λ l g. c .before .before .answer-line .ensures .1 ∙ ap answerLine (c .before .before .before .before .before .run-recipe .ensures .0 .0 ∙ ap answerOf (holds-run l (now (a .steps)) (now (a .line)) mostSteps g)) ∙ sym (frame-short l (now (a .line)) (c .before .before .before .before .before .before .before .if1 .left)),
+      λ l g. c .before .before .answer-line .ensures .1 ∙ ap answerLine (c .before .before .before .before .before .run-recipe .ensures .1 l g .0 .0) ∙ sym (frame-short l (now (a .line)) (c .before .before .before .before .before .before .before .if1 .left)),
     )
 
 pub frame-line-spec : {M : Type 1} → statement M

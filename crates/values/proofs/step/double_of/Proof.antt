@@ -9,7 +9,8 @@ use lib.Signed.{mag}
 use mir.Syntax.{w64}
 use mir.Val.{ofZ, toZ}
 use borrow.Author.Tests.{le-leb, lt-leb}
-use Rattle.semantics.specs.Value.{real, done, refused, ofWhole}
+use Rattle.semantics.specs.Value.{done, refused, ofWhole}
+use Rattle.values.specs.Carried.{real}
 use Rattle.values.proofs.Wholes.{abs-up, abs-down}
 use borrow.Author.Needs.{needs}
 use Rattle.values.proofs.step.double_of.Statement.{statement}

@@ -1,6 +1,6 @@
 -- `fmod_of` meets its contract. Assumes nothing.
 use mathlib.Core.Path.{ap}
-use Rattle.semantics.specs.Value.{real}
+use Rattle.values.specs.Carried.{real}
 use Rattle.values.proofs.Outcomes.{accepted, turned-down}
 use borrow.Author.Needs.{needs}
 use Rattle.values.proofs.step.fmod_of.Statement.{statement}

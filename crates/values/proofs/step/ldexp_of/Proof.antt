@@ -2,7 +2,7 @@
 use mathlib.Core.Path.{_≡_, ap}
 use mir.Syntax.{w64}
 use mir.Val.{ofZ, toZ}
-use Rattle.semantics.specs.Value.{real}
+use Rattle.values.specs.Carried.{real}
 use Rattle.values.proofs.Outcomes.{accepted, turned-down}
 use borrow.Author.Needs.{needs}
 use Rattle.values.proofs.step.ldexp_of.Statement.{statement}

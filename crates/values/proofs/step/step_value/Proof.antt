@@ -1,10 +1,17 @@
 -- `step_value` meets its contract, an arm at a time: what the arm's function ensures, at the arm's opcode. Assumes nothing.
+use mathlib.Core.Bool.{Bool, true, false, cond}
 use mathlib.Core.Path.{_≡_, refl, ap, _∙_}
-use Prim.Native.Nat.{ℕ}
-use lib.IntN.{ℤ}
+use Prim.Native.Nat.{ℕ, _^_}
+use lib.Dec.{eqb, leb}
+use lib.IntN.{ℤ, natAbs, _+ℤ_, _-ℤ_}
 use mir.Syntax.{w64}
 use mir.Val.{ofZ, toZ}
-use Rattle.semantics.specs.Value.{real, whole, done, ruleOf, stepValue}
+use Rattle.float_format.specs.Format.{binary64}
+use Rattle.float_format.specs.Rounding.{lroundRefusal, lroundValue}
+use Rattle.remainder.specs.Remainder.{fmod, fmodRefusal}
+use Rattle.scaling.specs.Scaling.{ldexp, ldexpRefusal}
+use Rattle.semantics.specs.Value.{Datum, double, whole, done, refused, fitsWord, ofWhole, ruleOf, stepValue}
+use Rattle.values.specs.Carried.{real, carriedValue, carried}
 use Rattle.values.specs.Seen.{seen}
 use Rattle.semantics.proofs.Rules.{ruled, unlisted}
 use borrow.Author.Needs.{needs}
@@ -19,6 +26,16 @@ arm c e =
     let i : toZ w64 (ofZ w64 (c .before .whole .result)) ≡ c .before .whole .result = search needs in
     let j : toZ w64 (ofZ w64 (c .whole2 .result)) ≡ c .whole2 .result = search needs in
     ruled (c .before .before .before .before .args .t) (c .before .before .before .before .args .w) (seen (c .before .before .before .before .args .a)) (seen (c .before .before .before .before .args .b)) e (c .before .before .before .double .ensures) (c .before .before .double2 .ensures) (i ∙ c .before .whole .ensures) (j ∙ c .whole2 .ensures)
+
+-- a refusal is carried as it is, and a value where there is none
+carried-cond : (b : Bool) (v : Datum) (number : ℕ) → cond b (done (carriedValue v)) (refused number) ≡ carried (cond b (done v) (refused number))
+carried-cond true v number = refl
+carried-cond false v number = refl
+
+carried-arm : (c : tie.After-whole2) {k : ℕ} → c .before .before .before .before .args .t .opcode ≡ k
+    → carried (ruleOf k (c .before .before .before .before .args .t .p) (c .before .before .before .before .args .w) (c .before .before .before .double .result) (c .before .before .double2 .result) (toZ w64 (ofZ w64 (c .before .whole .result))) (toZ w64 (ofZ w64 (c .whole2 .result))))
+    ≡ carried (stepValue (c .before .before .before .before .args .t) (c .before .before .before .before .args .w) (seen (c .before .before .before .before .args .a)) (seen (c .before .before .before .before .args .b)))
+carried-arm c e = ap carried (arm c e)
 
 double-requires : tie.Need-double-requires
 double-requires c κs = search needs
@@ -133,86 +150,98 @@ whole-of-requires-3 c κs = search needs
 
 returns : tie.Need-returns
 unfolding ruleOf
-returns c = (c .real-of .ensures .0 ∙ arm (c .before .before) (c .before .match .keys1), c .real-of .ensures .1)
+returns c = (c .real-of .ensures .0 ∙ carried-arm (c .before .before) (c .before .match .keys1), c .real-of .ensures .1)
 
 returns-2 : tie.Need-returns-2
 unfolding ruleOf
-returns-2 c = let z = c .before .signed .result in let e : toZ w64 (ofZ w64 z) ≡ z = search needs in (c .whole-of .ensures .0 ∙ ap (λ (v : ℤ). done (whole v)) (e ∙ c .before .signed .ensures) ∙ arm (c .before .before .before) (c .before .before .match .keys2), c .whole-of .ensures .1)
+returns-2 c = let z = c .before .signed .result in let e : toZ w64 (ofZ w64 z) ≡ z = search needs in (c .whole-of .ensures .0 ∙ ap (λ (v : ℤ). done (whole v)) (e ∙ c .before .signed .ensures) ∙ carried-arm (c .before .before .before) (c .before .before .match .keys2), c .whole-of .ensures .1)
 
 returns-3 : tie.Need-returns-3
 unfolding ruleOf
-returns-3 c = (c .real-of2 .ensures .0 ∙ arm (c .before .before) (c .before .match .keys3), c .real-of2 .ensures .1)
+returns-3 c = (c .real-of2 .ensures .0 ∙ carried-arm (c .before .before) (c .before .match .keys3), c .real-of2 .ensures .1)
 
 returns-4 : tie.Need-returns-4
 unfolding ruleOf
-returns-4 c = let z = c .before .signed2 .result in let e : toZ w64 (ofZ w64 z) ≡ z = search needs in (c .whole-of2 .ensures .0 ∙ ap (λ (v : ℤ). done (whole v)) (e ∙ c .before .signed2 .ensures) ∙ arm (c .before .before .before) (c .before .before .match .keys4), c .whole-of2 .ensures .1)
+returns-4 c = let z = c .before .signed2 .result in let e : toZ w64 (ofZ w64 z) ≡ z = search needs in (c .whole-of2 .ensures .0 ∙ ap (λ (v : ℤ). done (whole v)) (e ∙ c .before .signed2 .ensures) ∙ carried-arm (c .before .before .before) (c .before .before .match .keys4), c .whole-of2 .ensures .1)
 
 returns-5 : tie.Need-returns-5
 unfolding ruleOf
-returns-5 c = (c .real-of3 .ensures .0 ∙ ap (λ (v : ℕ). done (real v)) (c .before .floor .ensures) ∙ arm (c .before .before .before) (c .before .before .match .keys5), c .real-of3 .ensures .1)
+returns-5 c = (c .real-of3 .ensures .0 ∙ ap (λ (v : ℕ). done (real v)) (c .before .floor .ensures) ∙ carried-arm (c .before .before .before) (c .before .before .match .keys5), c .real-of3 .ensures .1)
 
 returns-6 : tie.Need-returns-6
 unfolding ruleOf
-returns-6 c = (c .real-of4 .ensures .0 ∙ ap (λ (v : ℕ). done (real v)) (c .before .ceil .ensures) ∙ arm (c .before .before .before) (c .before .before .match .keys6), c .real-of4 .ensures .1)
+returns-6 c = (c .real-of4 .ensures .0 ∙ ap (λ (v : ℕ). done (real v)) (c .before .ceil .ensures) ∙ carried-arm (c .before .before .before) (c .before .before .match .keys6), c .real-of4 .ensures .1)
 
 returns-7 : tie.Need-returns-7
 unfolding ruleOf
-returns-7 c = (c .real-of5 .ensures .0 ∙ ap (λ (v : ℕ). done (real v)) (c .before .trunc .ensures) ∙ arm (c .before .before .before) (c .before .before .match .keys7), c .real-of5 .ensures .1)
+returns-7 c = (c .real-of5 .ensures .0 ∙ ap (λ (v : ℕ). done (real v)) (c .before .trunc .ensures) ∙ carried-arm (c .before .before .before) (c .before .before .match .keys7), c .real-of5 .ensures .1)
 
 returns-8 : tie.Need-returns-8
 unfolding ruleOf
-returns-8 c = (c .real-of6 .ensures .0 ∙ ap (λ (v : ℕ). done (real v)) (c .before .round .ensures) ∙ arm (c .before .before .before) (c .before .before .match .keys8), c .real-of6 .ensures .1)
+returns-8 c = (c .real-of6 .ensures .0 ∙ ap (λ (v : ℕ). done (real v)) (c .before .round .ensures) ∙ carried-arm (c .before .before .before) (c .before .before .match .keys8), c .real-of6 .ensures .1)
 
 returns-9 : tie.Need-returns-9
 unfolding ruleOf
-returns-9 c = (c .real-of7 .ensures .0 ∙ ap (λ (v : ℕ). done (real v)) (c .before .nearbyint .ensures) ∙ arm (c .before .before .before) (c .before .before .match .keys9), c .real-of7 .ensures .1)
+returns-9 c = (c .real-of7 .ensures .0 ∙ ap (λ (v : ℕ). done (real v)) (c .before .nearbyint .ensures) ∙ carried-arm (c .before .before .before) (c .before .before .match .keys9), c .real-of7 .ensures .1)
 
 returns-10 : tie.Need-returns-10
 unfolding ruleOf
-returns-10 c = (c .real-of8 .ensures .0 ∙ ap (λ (v : ℕ). done (real v)) (c .before .fraction-of .ensures) ∙ arm (c .before .before .before) (c .before .before .match .keys10), c .real-of8 .ensures .1)
+returns-10 c = (c .real-of8 .ensures .0 ∙ ap (λ (v : ℕ). done (real v)) (c .before .fraction-of .ensures) ∙ carried-arm (c .before .before .before) (c .before .before .match .keys10), c .real-of8 .ensures .1)
 
 returns-11 : tie.Need-returns-11
 unfolding ruleOf
-returns-11 c = (c .real-of9 .ensures .0 ∙ ap (λ (v : ℕ). done (real v)) (c .before .fabs .ensures) ∙ arm (c .before .before .before) (c .before .before .match .keys11), c .real-of9 .ensures .1)
+returns-11 c = (c .real-of9 .ensures .0 ∙ ap (λ (v : ℕ). done (real v)) (c .before .fabs .ensures) ∙ carried-arm (c .before .before .before) (c .before .before .match .keys11), c .real-of9 .ensures .1)
 
 returns-12 : tie.Need-returns-12
 unfolding ruleOf
-returns-12 c = (c .real-of10 .ensures .0 ∙ ap (λ (v : ℕ). done (real v)) (c .before .negate .ensures) ∙ arm (c .before .before .before) (c .before .before .match .keys12), c .real-of10 .ensures .1)
+returns-12 c = (c .real-of10 .ensures .0 ∙ ap (λ (v : ℕ). done (real v)) (c .before .negate .ensures) ∙ carried-arm (c .before .before .before) (c .before .before .match .keys12), c .real-of10 .ensures .1)
 
 returns-13 : tie.Need-returns-13
 unfolding ruleOf
-returns-13 c = (c .lround-of .ensures .0 ∙ arm (c .before .before) (c .before .match .keys13), c .lround-of .ensures .1)
+returns-13 c =
+    let d = c .before .before in
+    (c .lround-of .ensures .0 ∙ carried-cond (eqb (lroundRefusal binary64 (d .before .before .before .double .result)) 0) (whole (lroundValue binary64 (d .before .before .before .double .result))) 21 ∙ carried-arm d (c .before .match .keys13), c .lround-of .ensures .1)
 
 returns-14 : tie.Need-returns-14
 unfolding ruleOf
-returns-14 c = (c .real-of11 .ensures .0 ∙ ap (λ (v : ℕ). done (real v)) (c .before .fmin .ensures) ∙ arm (c .before .before .before) (c .before .before .match .keys14), c .real-of11 .ensures .1)
+returns-14 c = (c .real-of11 .ensures .0 ∙ ap (λ (v : ℕ). done (real v)) (c .before .fmin .ensures) ∙ carried-arm (c .before .before .before) (c .before .before .match .keys14), c .real-of11 .ensures .1)
 
 returns-15 : tie.Need-returns-15
 unfolding ruleOf
-returns-15 c = (c .real-of12 .ensures .0 ∙ ap (λ (v : ℕ). done (real v)) (c .before .fmax .ensures) ∙ arm (c .before .before .before) (c .before .before .match .keys15), c .real-of12 .ensures .1)
+returns-15 c = (c .real-of12 .ensures .0 ∙ ap (λ (v : ℕ). done (real v)) (c .before .fmax .ensures) ∙ carried-arm (c .before .before .before) (c .before .before .match .keys15), c .real-of12 .ensures .1)
 
 returns-16 : tie.Need-returns-16
 unfolding ruleOf
-returns-16 c = (c .fmod-of .ensures .0 ∙ arm (c .before .before) (c .before .match .keys16), c .fmod-of .ensures .1)
+returns-16 c =
+    let d = c .before .before in
+    (c .fmod-of .ensures .0 ∙ carried-cond (eqb (fmodRefusal binary64 (d .before .before .before .double .result) (d .before .before .double2 .result)) 0) (double (fmod binary64 (d .before .before .before .double .result) (d .before .before .double2 .result))) 20 ∙ carried-arm d (c .before .match .keys16), c .fmod-of .ensures .1)
 
 returns-17 : tie.Need-returns-17
 unfolding ruleOf
-returns-17 c = (c .ldexp-of .ensures .0 ∙ arm (c .before .before) (c .before .match .keys17), c .ldexp-of .ensures .1)
+returns-17 c =
+    let d = c .before .before in
+    (c .ldexp-of .ensures .0 ∙ carried-cond (eqb (ldexpRefusal binary64 (d .before .before .before .double .result) (toZ w64 (ofZ w64 (d .whole2 .result)))) 0) (double (ldexp binary64 (d .before .before .before .double .result) (toZ w64 (ofZ w64 (d .whole2 .result))))) 21 ∙ carried-arm d (c .before .match .keys17), c .ldexp-of .ensures .1)
 
 returns-18 : tie.Need-returns-18
 unfolding ruleOf
-returns-18 c = (c .sum-of .ensures .0 ∙ arm (c .before .before) (c .before .match .keys18), c .sum-of .ensures .1)
+returns-18 c =
+    let d = c .before .before in
+    (c .sum-of .ensures .0 ∙ carried-cond (fitsWord ((toZ w64 (ofZ w64 (d .before .whole .result))) +ℤ (toZ w64 (ofZ w64 (d .whole2 .result))))) (whole ((toZ w64 (ofZ w64 (d .before .whole .result))) +ℤ (toZ w64 (ofZ w64 (d .whole2 .result))))) 21 ∙ carried-arm d (c .before .match .keys18), c .sum-of .ensures .1)
 
 returns-19 : tie.Need-returns-19
 unfolding ruleOf
-returns-19 c = (c .difference-of .ensures .0 ∙ arm (c .before .before) (c .before .match .keys19), c .difference-of .ensures .1)
+returns-19 c =
+    let d = c .before .before in
+    (c .difference-of .ensures .0 ∙ carried-cond (fitsWord ((toZ w64 (ofZ w64 (d .before .whole .result))) -ℤ (toZ w64 (ofZ w64 (d .whole2 .result))))) (whole ((toZ w64 (ofZ w64 (d .before .whole .result))) -ℤ (toZ w64 (ofZ w64 (d .whole2 .result))))) 21 ∙ carried-arm d (c .before .match .keys19), c .difference-of .ensures .1)
 
 returns-20 : tie.Need-returns-20
 unfolding ruleOf
-returns-20 c = (c .double-of .ensures .0 ∙ arm (c .before .before) (c .before .match .keys20), c .double-of .ensures .1)
+returns-20 c =
+    let d = c .before .before in
+    (c .double-of .ensures .0 ∙ carried-cond (leb (natAbs (toZ w64 (ofZ w64 (d .before .whole .result)))) (2 ^ 53)) (double (ofWhole (toZ w64 (ofZ w64 (d .before .whole .result))))) 22 ∙ carried-arm d (c .before .match .keys20), c .double-of .ensures .1)
 
 returns-21 : tie.Need-returns-21
-returns-21 c = (c .whole-of3 .ensures .0 ∙ unlisted _ _ _ _ _ _ _ (c .before .match .rest) ∙ arm (c .before .before) refl, c .whole-of3 .ensures .1)
+returns-21 c = (c .whole-of3 .ensures .0 ∙ ap carried (unlisted _ _ _ _ _ _ _ (c .before .match .rest) ∙ arm (c .before .before) refl), c .whole-of3 .ensures .1)
 
 pub step-value-spec : {M : Type 1} → statement M
 step-value-spec =
