@@ -41,16 +41,13 @@ pub fn read(s: &[u8], at: usize, n: usize) -> Field
     Field::Value(value)
 }
 
-// The digit of the value d.
+// The digit of the value d, without a test: from ten on, (d + 6) / 16 is 1, and the letters stand 39 places after where the figures would go
+// on. A test for each digit keeps the compiler from working several at a time.
 fn glyph(d: u64) -> u8
     requires { ⌜ d < 16 ⌝ }
     ensures { λ r. ⌜ r ≡ glyphOf d ⌝ }
 {
-    if d < 10 {
-        b'0' + d as u8
-    } else {
-        b'a' + (d - 10) as u8
-    }
+    (48 + d + (d + 6) / 16 * 39) as u8
 }
 
 // Fills out with the last digits of n, as many as it has room for.

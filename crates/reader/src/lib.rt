@@ -67,14 +67,17 @@ pub fn read(text: &[u8], steps: &mut [u64]) -> Reading
             Line::Good(t) => t,
             Line::Malformed => return refused(11, i),
         };
+        // What the row says is asked while its tests are still at hand: the compiler then folds the answers into them.
         let row = row_of(t.opcode);
+        let kind = kind_number(answer_kind(row));
+        let counted = input_count(row);
         let refusal = judge(&kinds, i as u64, inputs, row, t);
         if refusal != 0 {
             return refused(refusal, i);
         }
         put_step(steps, i, t);
-        kinds[i] = kind_number(answer_kind(row));
-        inputs += input_count(row);
+        kinds[i] = kind;
+        inputs += counted;
         i += 1;
     }
     Reading {

@@ -26,8 +26,8 @@ read-step : (k : tie.After-known-told Inv-loop μ-loop) → lineAt short (now (k
 read-step k = told-good _ (k .before .t .given .0 .0) (sym (k .before .before .before .line-at .ensures) ∙ k .before .t .given .1)
 
 -- and what it is refused for is what the definition says
-refusal : (j : tie.After-judge Inv-loop μ-loop) → j .judge .result ≡ stepRefusal (stepsIn (j .before .before .before .before .before .before .before .before .loop .steps) (j .before .before .before .before .before .before .before .before .loop .i)) (j .before .before .before .before .t .given .0 .0)
-refusal j = let l = j .before .before .before .before .before .before .before .before .loop in j .judge .ensures (stepsIn (l .steps) (l .i)) (l .inv .known)
+refusal : (j : tie.After-judge Inv-loop μ-loop) → j .judge .result ≡ stepRefusal (stepsIn (j .before .before .before .before .before .before .before .before .before .before .before .loop .steps) (j .before .before .before .before .before .before .before .before .before .before .before .loop .i)) (j .before .before .before .before .before .before .before .t .given .0 .0)
+refusal j = let l = j .before .before .before .before .before .before .before .before .before .before .before .loop in j .judge .ensures (stepsIn (l .steps) (l .i)) (l .inv .known)
 
 bad-length-requires : tie.Need-bad-length-requires Inv-loop μ-loop
 bad-length-requires c κs = tt
@@ -72,38 +72,38 @@ returns-2 c =
 row-of-requires : tie.Need-row-of-requires Inv-loop μ-loop
 row-of-requires c κs = tt
 
-judge-requires : tie.Need-judge-requires Inv-loop μ-loop
-judge-requires c κs = c .before .row-of .ensures
-
-refused-requires-3 : tie.Need-refused-requires-3 Inv-loop μ-loop
-refused-requires-3 c κs = tt
-
-same-length-2 : tie.Need-same-length-2 Inv-loop μ-loop
-same-length-2 c = c .before .before .before .before .before .before .before .before .before .before .loop .inv .long ∙ sym (c .before .before .before .before .before .before .before .before .before .before .before .before .before .before .before .pre)
-
-returns-3 : tie.Need-returns-3 Inv-loop μ-loop
-returns-3 c =
-    let k = c .before .before .before .before .before in
-    let l = c .before .before .before .before .before .before .before .before .before .before .loop in
-    (l .inv .long, says-refused (now (c .before .before .before .before .before .before .before .before .before .before .before .before .before .before .before .args .text)) _ (l .steps) (l .kinds) (l .inputs) (l .i) (l .inv) (c .before .before .before .before .before .before .before .before .before .loop-test .taken) (k .before .t .given .0 .0) (read-step k) _ (refusal (c .before .before)) (c .before .if2 .taken) (c .refused3 .result) (c .refused3 .ensures))
-
-put-step-requires : tie.Need-put-step-requires Inv-loop μ-loop
-put-step-requires c κs = let l = c .before .before .before .before .before .before .before .before .before .before .loop in omega (arith, l .inv .within, l .inv .room, l .inv .long)
-
 answer-kind-requires : tie.Need-answer-kind-requires Inv-loop μ-loop
 answer-kind-requires c κs = tt
 
 kind-number-requires : tie.Need-kind-number-requires Inv-loop μ-loop
 kind-number-requires c κs = tt
 
-array-write-kinds : tie.Need-array-write-kinds Inv-loop μ-loop
-array-write-kinds c = let l = c .before .before .before .before .before .before .before .before .before .before .before .before .before .before .before .loop in omega (arith, l .inv .room)
-
 input-count-requires : tie.Need-input-count-requires Inv-loop μ-loop
 input-count-requires c κs = tt
 
+judge-requires : tie.Need-judge-requires Inv-loop μ-loop
+judge-requires c κs = c .before .before .before .before .row-of .ensures
+
+refused-requires-3 : tie.Need-refused-requires-3 Inv-loop μ-loop
+refused-requires-3 c κs = tt
+
+same-length-2 : tie.Need-same-length-2 Inv-loop μ-loop
+same-length-2 c = c .before .before .before .before .before .before .before .before .before .before .before .before .before .loop .inv .long ∙ sym (c .before .before .before .before .before .before .before .before .before .before .before .before .before .before .before .before .before .before .pre)
+
+returns-3 : tie.Need-returns-3 Inv-loop μ-loop
+returns-3 c =
+    let k = c .before .before .before .before .before .before .before .before in
+    let l = c .before .before .before .before .before .before .before .before .before .before .before .before .before .loop in
+    (l .inv .long, says-refused (now (c .before .before .before .before .before .before .before .before .before .before .before .before .before .before .before .before .before .before .args .text)) _ (l .steps) (l .kinds) (l .inputs) (l .i) (l .inv) (c .before .before .before .before .before .before .before .before .before .before .before .before .loop-test .taken) (k .before .t .given .0 .0) (read-step k) _ (refusal (c .before .before)) (c .before .if2 .taken) (c .refused3 .result) (c .refused3 .ensures))
+
+put-step-requires : tie.Need-put-step-requires Inv-loop μ-loop
+put-step-requires c κs = let l = c .before .before .before .before .before .before .before .before .before .before .before .before .before .loop in omega (arith, l .inv .within, l .inv .room, l .inv .long)
+
+array-write-kinds : tie.Need-array-write-kinds Inv-loop μ-loop
+array-write-kinds c = let l = c .before .before .before .before .before .before .before .before .before .before .before .before .before .before .before .before .loop in omega (arith, l .inv .room)
+
 add-inputs : tie.Need-add-inputs Inv-loop μ-loop
-add-inputs c = let l = c .before .before .before .before .before .before .before .before .before .before .before .before .before .before .before .before .loop in omega (arith, l .inv .few, l .inv .within, l .inv .room, c .input-count .ensures .1)
+add-inputs c = let l = c .before .before .before .before .before .before .before .before .before .before .before .before .before .before .before .before .loop in omega (arith, l .inv .few, l .inv .within, l .inv .room, c .before .before .before .before .before .before .before .input-count .ensures .1)
 
 add-i : tie.Need-add-i Inv-loop μ-loop
 add-i c = let l = c .before .before .before .before .before .before .before .before .before .before .before .before .before .before .before .before .loop in omega (arith, l .inv .room)
@@ -115,10 +115,10 @@ loop-again : tie.Need-loop-again Inv-loop μ-loop
 loop-again c =
     let k = c .before .before .before .before .before .before .before .before .before .before .before in
     let l = c .before .before .before .before .before .before .before .before .before .before .before .before .before .before .before .before .loop in
-    let n = c .input-count in
-    let p = c .before .before .before .before .before .put-step in
+    let n = c .before .before .before .before .before .before .before .input-count in
+    let p = c .before .before .put-step in
     let row = c .before .before .before .before .before .before .before .before .before .before .row-of .ensures in
-    going-more (now (c .before .before .before .before .before .before .before .before .before .before .before .before .before .before .before .before .before .before .before .before .before .args .text)) _ (l .steps) (l .kinds) (l .inputs) (l .i) (l .inv) (c .before .before .before .before .before .before .before .before .before .before .before .before .before .before .before .loop-test .taken) (k .before .t .given .0 .0) (read-step k) (sym (refusal (c .before .before .before .before .before .before .before .before)) ∙ c .before .before .before .before .before .before .before .if2 .left) (p .last .0) (p .kept .0) (p .ensures .1) (n .result) (rw row at (n .ensures .0)) (n .ensures .1) (c .before .kind-number .result) (c .before .kind-number .ensures ∙ ap kindNumber (c .before .before .answer-kind .ensures ∙ ap answerKind row))
+    going-more (now (c .before .before .before .before .before .before .before .before .before .before .before .before .before .before .before .before .before .before .before .before .before .args .text)) _ (l .steps) (l .kinds) (l .inputs) (l .i) (l .inv) (c .before .before .before .before .before .before .before .before .before .before .before .before .before .before .before .loop-test .taken) (k .before .t .given .0 .0) (read-step k) (sym (refusal (c .before .before .before .before .before)) ∙ c .before .before .before .before .if2 .left) (p .last .0) (p .kept .0) (p .ensures .1) (n .result) (rw row at (n .ensures .0)) (n .ensures .1) (c .before .before .before .before .before .before .before .before .kind-number .result) (c .before .before .before .before .before .before .before .before .kind-number .ensures ∙ ap kindNumber (c .before .before .before .before .before .before .before .before .before .answer-kind .ensures ∙ ap answerKind row))
 
 same-length-3 : tie.Need-same-length-3 Inv-loop μ-loop
 same-length-3 c = c .before .loop .inv .long ∙ sym (c .before .before .before .before .before .before .pre)
@@ -146,15 +146,15 @@ read-spec =
     same-length
     returns-2
     row-of-requires
+    answer-kind-requires
+    kind-number-requires
+    input-count-requires
     judge-requires
     refused-requires-3
     same-length-2
     returns-3
     put-step-requires
-    answer-kind-requires
-    kind-number-requires
     array-write-kinds
-    input-count-requires
     add-inputs
     add-i
     loop-less
