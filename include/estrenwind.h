@@ -9,6 +9,8 @@
  * denormals-are-zero (DAZ); none reads or sets errno or an exception flag. Code compiled with -ffast-math may assume that
  * its own doubles are never NaN, infinite or -0: there, use the patterns.
  *
+ * Nothing here keeps state or allocates memory: any number of threads may call anything at once.
+ *
  * "Quieted" means the same pattern with the top fraction bit set.
  *
  * Link with libestrenwind.a (x86-64). For C99 and C++11 or later.
@@ -23,6 +25,23 @@
 #ifdef __cplusplus
 extern "C" {
 #endif
+
+/* ---- Version and sizes ---- */
+
+#define EW_VERSION "0.1.0"
+#define EW_VERSION_MAJOR 0
+#define EW_VERSION_MINOR 1
+#define EW_VERSION_PATCH 0
+
+/* What recipes, frames and sheets measure, in bytes where nothing else is said. A line's length counts its line feed. */
+#define EW_MOST_STEPS 128                                /* steps of the longest recipe: words that are enough for every ew_run */
+#define EW_MOST_INPUTS 16                                /* inputs of a recipe */
+#define EW_RECIPE_LINE 39                                /* a recipe, per step */
+#define EW_SHEET_LINE 37                                 /* a sheet, per step */
+#define EW_FRAME_INPUT 16                                /* a frame, per input */
+#define EW_MOST_TEXT (EW_MOST_STEPS * EW_RECIPE_LINE)    /* 4992: the longest recipe */
+#define EW_MOST_SHEET (EW_MOST_STEPS * EW_SHEET_LINE)    /* 4736: memory that is enough for every ew_sheet */
+#define EW_MOST_FRAME (EW_MOST_INPUTS * EW_FRAME_INPUT)  /* 256: the longest frame */
 
 /* ---- Bits and values ---- */
 
@@ -57,7 +76,7 @@ enum {
     EW_REFUSED_INEXACT = 22,   /* a whole number over 2^53 in magnitude, to be made a double */
 
     /* A frame; the place is 0, but the input's step for its range. */
-    EW_REFUSED_FRAME = 30,       /* not 16 digits an input */
+    EW_REFUSED_FRAME = 30,       /* not 16 digits per input */
     EW_REFUSED_FRAME_DIGIT = 31, /* not a lower-case hexadecimal digit */
     EW_REFUSED_INPUT = 32,       /* an input that is a NaN or outside its range */
 
@@ -343,6 +362,19 @@ static inline float ew_fmaxf(float x, float y) { return ew_value_f32(ew_fmax_f32
 
 /* ---- Recipes ---- */
 
+/*
+ * What holds of both ew_sheet and ew_run:
+ *
+ *     Threads    They keep no state. Any number of threads may call them at once, on the same text and frame too, each with
+ *                lent memory of its own.
+ *     Lengths    A length counts elements: bytes, of words uint64_t each. An array of length 0 is not touched: its pointer
+ *                may be NULL.
+ *     Overlap    The lent memory (sheet, words) must not overlap the text or the frame. Text and frame may overlap.
+ *     Alignment  words is aligned as uint64_t is. Text, frame and sheet may start anywhere.
+ *     Stack      On the longest recipe ew_run uses 6 KiB and ew_sheet 7 KiB. 12 KiB are enough for either, with what the
+ *                dynamic linker takes of it to bind memcpy at its first call.
+ */
+
 /* The kind of a step's value. */
 enum {
     EW_DOUBLE = 1,
@@ -353,14 +385,15 @@ enum {
 typedef struct { uint64_t refusal, place, steps; } ew_sheet_answer;
 
 /*
- * ew_sheet works out, from the ranges that a recipe declares for its inputs, a range for every step, and writes a line a step to sheet, 37
- * bytes each: step 2 lower-case hexadecimal digits, kind 2, low 16, high 16, a line feed. Memory past the last line stays as it was.
+ * ew_sheet works out, from the ranges that a recipe declares for its inputs, a range for every step, and writes one line per step to
+ * sheet, EW_SHEET_LINE bytes each: step 2 lower-case hexadecimal digits, kind 2, low 16, high 16, a line feed. Memory past the last line
+ * stays as it was.
  *
  * A passed sheet (refusal 0) is a promise, and proved: of any frame that is refused nothing of 30, 31 and 32, ew_run, given room, completes,
  * and every step's value has the kind and lies in the range that its line shows, both ends included.
  *
- * Refuses 10 to 17 for the text, 40 where sheet has fewer than 37 bytes a step, and 20 to 22 for a step some of whose values ew_run might
- * refuse: the first in that order, and no byte is written.
+ * Refuses 10 to 17 for the text, 40 where sheet has fewer than EW_SHEET_LINE bytes per step, and 20 to 22 for a step some of whose values
+ * ew_run might refuse: the first in that order, and no byte is written.
  */
 ew_sheet_answer ew_sheet(const uint8_t *text, size_t text_len, uint8_t *sheet, size_t sheet_len);
 
@@ -371,8 +404,8 @@ typedef struct { uint64_t refusal, place, kind, word; } ew_run_answer;
  * ew_run works out every step of a recipe on one frame, and writes each step's 64 bits to words, in step order: a double's pattern,
  * a whole number's two's complement. Memory past the last step's word stays as it was.
  *
- * A recipe is lines of 39 bytes, one a step: opcode 2 lower-case hexadecimal digits, A 2, B 2, P 16, Q 16, a line feed. A frame is 16
- * digits an input, run together.
+ * A recipe is one line of EW_RECIPE_LINE bytes per step: opcode 2 lower-case hexadecimal digits, A 2, B 2, P 16, Q 16, a line feed. A frame
+ * is EW_FRAME_INPUT digits per input, run together.
  *
  * Refuses 10 to 17 for the text, 40 where words has fewer places than the recipe steps, 30, 31 and 32 for the frame, and 20 to 22 for
  * a step: the first in that order, and no word is written.

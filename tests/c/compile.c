@@ -426,8 +426,9 @@ static void check_run(void)
     check("run words", 3, words[3], 8);
     r = ew_run(text, length, (const uint8_t *)"bfe0000000000000", 16, words, 2);
     check("run refusal", 2, r.refusal, EW_REFUSED_ROOM);
-    r = ew_run(NULL, 0, NULL, 0, NULL, 0);
-    check("run refusal", 3, r.refusal, EW_REFUSED_LENGTH);
+    r = ew_run(text, length, text + 6, EW_FRAME_INPUT, words, 4); /* the frame is a part of the text: -2.5 */
+    check("run refusal", 3, r.refusal, EW_ACCEPTED);
+    check("run word", 3, r.word, 0xfffffffffffffffd);
 }
 
 /* Its sheet, as document 01 prints it. */
@@ -452,14 +453,67 @@ static void check_sheet(void)
     check("sheet steps", 1, s.steps, 3);
     check("sheet lines", 1, memcmp(sheet, lines, room) == 0, 1);
     check("sheet leaves the rest", 1, sheet[room], '#');
-    s = ew_sheet(NULL, 0, NULL, 0);
-    check("sheet refusal", 2, s.refusal, EW_REFUSED_LENGTH);
+}
+
+/* An array of length 0 may be NULL, each of them alone and all at once. */
+static void check_nothing(void)
+{
+    const uint8_t *input = (const uint8_t *)recipe, *constant = (const uint8_t *)"040000000000000000002a0000000000000000\n";
+    uint64_t word = 7;
+    uint8_t sheet[EW_SHEET_LINE] = {'#'};
+    check("run of nothing", 0, ew_run(NULL, 0, NULL, 0, NULL, 0).refusal, EW_REFUSED_LENGTH);
+    check("run without a text", 0, ew_run(NULL, 0, input, 16, &word, 1).refusal, EW_REFUSED_LENGTH);
+    check("run without words", 0, ew_run(constant, EW_RECIPE_LINE, constant, 0, NULL, 0).refusal, EW_REFUSED_ROOM);
+    check("run without a frame", 0, ew_run(input, EW_RECIPE_LINE, NULL, 0, &word, 1).refusal, EW_REFUSED_FRAME);
+    check("run writes nothing", 0, word, 7);
+    check("run without inputs", 0, ew_run(constant, EW_RECIPE_LINE, NULL, 0, &word, 1).refusal, EW_ACCEPTED);
+    check("run without inputs", 1, word, 42);
+    check("sheet of nothing", 0, ew_sheet(NULL, 0, NULL, 0).refusal, EW_REFUSED_LENGTH);
+    check("sheet without a text", 0, ew_sheet(NULL, 0, sheet, sizeof sheet).refusal, EW_REFUSED_LENGTH);
+    check("sheet without memory", 0, ew_sheet(constant, EW_RECIPE_LINE, NULL, 0).refusal, EW_REFUSED_ROOM);
+    check("sheet writes nothing", 0, sheet[0], '#');
+}
+
+/* Text, frame and sheet at every address modulo 8. */
+static void check_addresses(void)
+{
+    size_t i;
+    for (i = 0; i < 8; i++) {
+        uint8_t text[sizeof recipe + 8], frame[EW_FRAME_INPUT + 8], sheet[sizeof lines + 8];
+        uint64_t words[3];
+        memcpy(text + i, recipe, sizeof recipe);
+        memcpy(frame + i, "bfe0000000000000", EW_FRAME_INPUT);
+        check("run at an address", i, ew_run(text + i, sizeof recipe - 1, frame + i, EW_FRAME_INPUT, words, 3).word, 0xffffffffffffffff);
+        check("sheet at an address", i, ew_sheet(text + i, sizeof recipe - 1, sheet + i, sizeof lines - 1).steps, 3);
+        check("sheet at an address", i, memcmp(sheet + i, lines, sizeof lines - 1) == 0, 1);
+    }
+}
+
+/* Document 01's numbers, and a version that is its parts. The preprocessor can compute with all of them. */
+#if EW_VERSION_MAJOR * 10000 + EW_VERSION_MINOR * 100 + EW_VERSION_PATCH < 100 || EW_MOST_TEXT < EW_MOST_SHEET
+#error "the version or a size is no number"
+#endif
+
+static void check_constants(void)
+{
+    char version[40];
+    snprintf(version, sizeof version, "%d.%d.%d", EW_VERSION_MAJOR, EW_VERSION_MINOR, EW_VERSION_PATCH);
+    check("version " EW_VERSION, 0, strcmp(version, EW_VERSION) == 0, 1);
+    check("steps", 0, EW_MOST_STEPS, 128);
+    check("inputs", 0, EW_MOST_INPUTS, 16);
+    check("recipe's line", 0, EW_RECIPE_LINE, 39);
+    check("sheet's line", 0, EW_SHEET_LINE, 37);
+    check("digits per input", 0, EW_FRAME_INPUT, 16);
+    check("longest text", 0, EW_MOST_TEXT, 4992);
+    check("longest sheet", 0, EW_MOST_SHEET, 4736);
+    check("longest frame", 0, EW_MOST_FRAME, 256);
 }
 
 int main(void)
 {
     static const int modes[] = {FE_TONEAREST, FE_DOWNWARD, FE_UPWARD, FE_TOWARDZERO};
     size_t i;
+    check_constants();
 #ifdef __FAST_MATH__
     /* Without both bits this build would show nothing that the plain one does not. */
     check("MXCSR: FTZ and DAZ", 0, _mm_getcsr() & 0x8040, 0x8040);
@@ -469,6 +523,8 @@ int main(void)
         check_all();
         check_run();
         check_sheet();
+        check_nothing();
+        check_addresses();
     }
     fesetround(FE_TONEAREST);
     if (failures != 0) {

@@ -1,7 +1,8 @@
 #!/bin/sh
 # Reads the machine code of the library's functions, whatever the compiler made of the source: none may touch a floating-point
 # register, none but fmod may divide, and none may call or jump to another but fmod, which recipes share, and ldexp, whose rare
-# cases are a function of their own. machine_code.sh LIBRARY
+# cases are a function of their own. The library as a whole keeps no state and asks for nothing but what moves memory.
+# machine_code.sh LIBRARY
 set -eu
 library=$1
 functions="floor ceil trunc round nearbyint lround fabs negate classify modf frexp ldexp fmod nextafter fmin fmax"
@@ -29,4 +30,14 @@ for name in $functions; do
         checked=$((checked + 1))
     done
 done
-echo "$checked functions touch no floating-point register; but for fmod none divides, but for fmod and ldexp none calls another"
+writable=$(objdump -h "$library" | awk '$2 ~ /^\.t?(data|bss)/ && $2 !~ /^\.data\.rel\.ro/ && $3 !~ /^0+$/ { print $2 }')
+if [ -n "$writable" ]; then
+    echo "$library keeps state: $writable" >&2
+    exit 1
+fi
+outside=$(nm -u "$library" | awk 'NF == 2 && $2 !~ /^(mem(cpy|move|set|cmp)|bcmp)$/ { print $2 }')
+if [ -n "$outside" ]; then
+    echo "$library asks for $outside" >&2
+    exit 1
+fi
+echo "$checked functions touch no floating-point register; but for fmod none divides, but for fmod and ldexp none calls another; no state"

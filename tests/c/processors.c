@@ -225,7 +225,7 @@ static int libm_values(const char *name)
 
 /* ---- Recipes ---- */
 
-enum { STEPS = 128, SHEET_LINE = 37, BUCKET = 64, MOST = 1 << 16 };
+enum { BUCKET = 64, MOST = 1 << 16 };
 
 static uint8_t text[MOST], frame[MOST];
 
@@ -243,13 +243,13 @@ static int read_call(FILE *file, uint32_t lengths[2])
 
 static void print_run(unsigned long number, const uint32_t lengths[2])
 {
-    static uint64_t words[STEPS];
+    static uint64_t words[EW_MOST_STEPS];
     uint64_t hash = 0;
     int i;
     ew_run_answer r;
     memset(words, 0xa5, sizeof words);
-    r = ew_run(text, lengths[0], frame, lengths[1], words, STEPS);
-    for (i = 0; i < STEPS; i++)
+    r = ew_run(text, lengths[0], frame, lengths[1], words, EW_MOST_STEPS);
+    for (i = 0; i < EW_MOST_STEPS; i++)
         hash = hashed(hash, words[i]);
     printf("%08lu %llu %llu %llu %016llx %016llx\n", number, (unsigned long long)r.refusal, (unsigned long long)r.place,
            (unsigned long long)r.kind, (unsigned long long)r.word, (unsigned long long)hash);
@@ -257,7 +257,7 @@ static void print_run(unsigned long number, const uint32_t lengths[2])
 
 static void print_sheet(unsigned long number, const uint32_t lengths[2])
 {
-    static uint8_t sheet[STEPS * SHEET_LINE];
+    static uint8_t sheet[EW_MOST_SHEET];
     uint64_t hash = 0;
     size_t i;
     ew_sheet_answer r;

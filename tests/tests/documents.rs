@@ -1,8 +1,8 @@
 //! The header, docs/FORMATS.md and the manual pages tell the same refusals, and their examples are what the
-//! programs print.
+//! programs print. The version is the same wherever it stands, and the header's sizes are the reference's.
 
 use estrenwind_tests::programs::{run_output, sheet_output};
-use estrenwind_tests::reference::recipe::Way;
+use estrenwind_tests::reference::recipe::{frame, sheet, text, Way};
 use std::collections::BTreeMap;
 use std::fs;
 use std::path::Path;
@@ -118,4 +118,58 @@ fn examples_of_formats() {
     assert_eq!(input.matches('\n').count(), 6);
     let answers = block("answers each frame with a line:\n", 2);
     assert_eq!(run_output(Way::Exact, input.as_bytes()), answers.as_bytes());
+}
+
+/// What stands behind a name that the header defines.
+fn defined(name: &str) -> String {
+    let header = read("include/estrenwind.h");
+    let mut values = header
+        .lines()
+        .filter_map(|line| line.strip_prefix(&format!("#define {name} ")));
+    let value = values
+        .next()
+        .unwrap_or_else(|| panic!("{name} isn't defined"));
+    value.trim().to_string()
+}
+
+/// The rest of the first line that starts like this.
+fn line_after(name: &str, start: &str) -> String {
+    let text = read(name);
+    let line = text.lines().find_map(|line| line.strip_prefix(start));
+    line.unwrap_or_else(|| panic!("{name} has no line {start}.."))
+        .to_string()
+}
+
+#[test]
+fn one_version() {
+    let version = line_after("Makefile", "VERSION = ");
+    assert_eq!(defined("EW_VERSION"), format!("\"{version}\""));
+    let parts = ["MAJOR", "MINOR", "PATCH"].map(|part| defined(&format!("EW_VERSION_{part}")));
+    assert_eq!(parts.join("."), version);
+    assert_eq!(
+        line_after("bindings/rust/Cargo.toml", "version = "),
+        format!("\"{version}\"")
+    );
+}
+
+#[test]
+fn sizes_are_the_reference_s() {
+    for (name, size) in [
+        ("EW_MOST_STEPS", text::MOST_STEPS),
+        ("EW_MOST_INPUTS", text::MOST_INPUTS),
+        ("EW_RECIPE_LINE", text::LINE),
+        ("EW_SHEET_LINE", sheet::LINE),
+        ("EW_FRAME_INPUT", frame::DIGITS),
+    ] {
+        let value = defined(name);
+        assert_eq!(value.split(' ').next(), Some(size.to_string().as_str()));
+    }
+    for (name, size) in [
+        ("EW_MOST_TEXT", text::MOST_STEPS * text::LINE),
+        ("EW_MOST_SHEET", text::MOST_STEPS * sheet::LINE),
+        ("EW_MOST_FRAME", text::MOST_INPUTS * frame::DIGITS),
+    ] {
+        let value = defined(name);
+        assert!(value.contains(&format!("/* {size}: ")), "{value}");
+    }
 }
