@@ -1,6 +1,7 @@
 /*
- * Measures the deepest stack of ew_run and ew_sheet: each call runs on a stack of its own that was filled with a pattern, on a recipe of 128
- * steps with sixteen inputs, and what no longer holds the pattern was used. Fails above 64 KiB.
+ * Measures the deepest stack of ew_run and ew_sheet: each call runs on a stack of its own that was filled with a pattern, on a recipe of
+ * EW_MOST_STEPS steps with EW_MOST_INPUTS inputs and every opcode, and what no longer holds the pattern was used. Fails above what the
+ * header says is enough.
  */
 #include <pthread.h>
 #include <stdio.h>
@@ -9,50 +10,62 @@
 
 #include "estrenwind.h"
 
-enum { STACK = 1 << 20, STEPS = 128, INPUTS = 16, LINE = 39, SHEET_LINE = 37, LIMIT = 65536, PATTERN = 0xa5 };
+enum { STACK = 1 << 20, LIMIT = 12 * 1024, PATTERN = 0xa5 };
 
-static char text[STEPS * LINE + 1], frame[INPUTS * 16 + 1];
-static uint64_t words[STEPS];
-static uint8_t sheet[STEPS * SHEET_LINE];
+static char text[EW_MOST_TEXT + 1], frame[EW_MOST_FRAME + 1];
+static uint64_t words[EW_MOST_STEPS];
+static uint8_t sheet[EW_MOST_SHEET];
 static ew_run_answer answer;
 static ew_sheet_answer shown;
+static unsigned char *top; /* where a caller's stack ends and the call's begins */
 
-/* Inputs first, then every opcode of one or two doubles in turn, each on the steps before it. */
+/* Fifteen double inputs and a whole one, two constants, then every other opcode in turn. */
 static void write_recipe(void)
 {
-    static const unsigned opcodes[] = {0x10, 0x11, 0x12, 0x13, 0x14, 0x15, 0x16, 0x17, 0x20, 0x21};
+    enum { WHOLE_INPUT = EW_MOST_INPUTS - 1, CONSTANT = EW_MOST_INPUTS, WHOLE_CONSTANT, FIRST };
+    static const struct {
+        unsigned opcode, a, b;
+    } steps[] = {
+        {0x10, 0, 0}, {0x11, 1, 0}, {0x12, 2, 0}, {0x13, 3, 0}, {0x14, 4, 0}, {0x15, 5, 0}, {0x16, 6, 0}, {0x17, 7, 0}, {0x18, 8, 0},
+        {0x20, 9, 10}, {0x21, 11, 12}, {0x22, 13, CONSTANT}, {0x23, 14, WHOLE_CONSTANT},
+        {0x30, WHOLE_INPUT, WHOLE_CONSTANT}, {0x31, WHOLE_INPUT, WHOLE_CONSTANT}, {0x32, WHOLE_INPUT, 0},
+    };
     int i;
-    for (i = 0; i < INPUTS; i++) {
-        sprintf(text + i * LINE, "010000c0b0000000000000%s\n", "40b0000000000000");
-        sprintf(frame + i * 16, "%016llx", (unsigned long long)ew_bits_f64(i * 1.25 - 8));
+    for (i = 0; i < WHOLE_INPUT; i++) {
+        sprintf(text + i * EW_RECIPE_LINE, "010000c0b0000000000000%s\n", "40b0000000000000");
+        sprintf(frame + i * EW_FRAME_INPUT, "%016llx", (unsigned long long)ew_bits_f64(i * 1.25 - 8));
     }
-    for (; i < STEPS; i++) {
-        const unsigned opcode = opcodes[(unsigned)i % 10];
-        sprintf(text + i * LINE, "%02x%02x%02x%032x\n", opcode, (unsigned)(i - 1), opcode < 0x20 ? 0u : (unsigned)(i - 15), 0u);
+    sprintf(text + WHOLE_INPUT * EW_RECIPE_LINE, "020000%016x%016x\n", 0u, 64u);
+    sprintf(frame + WHOLE_INPUT * EW_FRAME_INPUT, "%016x", 5u);
+    sprintf(text + CONSTANT * EW_RECIPE_LINE, "030000%016llx%016x\n", (unsigned long long)ew_bits_f64(1e-300), 0u);
+    sprintf(text + WHOLE_CONSTANT * EW_RECIPE_LINE, "040000%016llx%016x\n", (unsigned long long)-1070, 0u);
+    for (i = FIRST; i < EW_MOST_STEPS; i++) {
+        const size_t k = (size_t)(i - FIRST) % (sizeof steps / sizeof steps[0]);
+        sprintf(text + i * EW_RECIPE_LINE, "%02x%02x%02x%032x\n", steps[k].opcode, steps[k].a, steps[k].b, 0u);
     }
 }
 
 static void *run(void *unused)
 {
-    answer = ew_run((const uint8_t *)text, STEPS * LINE, (const uint8_t *)frame, INPUTS * 16, words, STEPS);
+    top = __builtin_frame_address(0);
+    answer = ew_run((const uint8_t *)text, EW_MOST_TEXT, (const uint8_t *)frame, EW_MOST_FRAME, words, EW_MOST_STEPS);
     return unused;
 }
 
 static void *show(void *unused)
 {
-    shown = ew_sheet((const uint8_t *)text, STEPS * LINE, sheet, sizeof sheet);
+    top = __builtin_frame_address(0);
+    shown = ew_sheet((const uint8_t *)text, EW_MOST_TEXT, sheet, EW_MOST_SHEET);
     return unused;
 }
 
-static void *nothing(void *unused) { return unused; }
-
-/* The bytes of a painted stack that a thread used. */
+/* The bytes of a painted stack that a call used. */
 static long used_by(void *(*body)(void *))
 {
     pthread_attr_t attributes;
     pthread_t thread;
     unsigned char *stack = aligned_alloc(4096, STACK);
-    long untouched = 0;
+    long used, untouched = 0;
     if (stack == NULL)
         exit(1);
     memset(stack, PATTERN, STACK);
@@ -64,21 +77,29 @@ static long used_by(void *(*body)(void *))
     pthread_join(thread, NULL);
     while (untouched < STACK && stack[untouched] == PATTERN)
         untouched++;
+    used = top - (stack + untouched);
     free(stack);
-    return STACK - untouched;
+    return used;
 }
 
 int main(void)
 {
-    long idle, bytes, sheet_bytes;
+    long bytes, sheet_bytes;
     write_recipe();
-    idle = used_by(nothing);
-    bytes = used_by(run) - idle;
-    sheet_bytes = used_by(show) - idle;
+    /* Once before they count: at its first call the dynamic linker binds memcpy, and takes some 3 KiB of the caller's stack for that. */
+    run(NULL);
+    show(NULL);
     if (answer.refusal != EW_ACCEPTED || shown.refusal != EW_ACCEPTED) {
-        printf("the recipe was refused: %llu by the run, %llu by the sheet\n", (unsigned long long)answer.refusal, (unsigned long long)shown.refusal);
+        printf("the recipe was refused: %llu at %llu by the run, %llu at %llu by the sheet\n", (unsigned long long)answer.refusal,
+               (unsigned long long)answer.place, (unsigned long long)shown.refusal, (unsigned long long)shown.place);
         return 1;
     }
-    printf("on 128 steps ew_run used %ld bytes of stack and ew_sheet %ld\n", bytes, sheet_bytes);
-    return bytes > LIMIT || sheet_bytes > LIMIT;
+    bytes = used_by(run);
+    sheet_bytes = used_by(show);
+    printf("on %d steps ew_run used %ld bytes of stack and ew_sheet %ld\n", EW_MOST_STEPS, bytes, sheet_bytes);
+    if (bytes > LIMIT || sheet_bytes > LIMIT) {
+        printf("more than %d\n", LIMIT);
+        return 1;
+    }
+    return 0;
 }

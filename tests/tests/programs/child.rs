@@ -33,7 +33,12 @@ fn collect(mut stream: impl Read + Send + 'static) -> Receiver<Vec<u8>> {
 
 impl Child {
     pub fn start(program: &Path) -> Child {
-        let mut child = Child::spawn(Command::new(program).stdout(Stdio::piped()));
+        Child::start_command(&mut Command::new(program))
+    }
+
+    /// Starts a command and collects its output.
+    pub fn start_command(command: &mut Command) -> Child {
+        let mut child = Child::spawn(command.stdout(Stdio::piped()));
         let output = child.take_output();
         child.output = Some(collect(output));
         child

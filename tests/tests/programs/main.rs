@@ -8,6 +8,7 @@ mod files;
 mod generated;
 mod literal;
 mod outputs;
+mod stack;
 
 use child::Child;
 use estrenwind_tests::programs::{run_output, sheet_output};
