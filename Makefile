@@ -50,7 +50,7 @@ EXAMPLE = texture_index
 demo: build  ## an example recipe through both programs, with names and decimal numbers (EXAMPLE=index_clamp for another)
 	@$(call need,$(CC),compile the example)
 	@mkdir -p build/demo
-	$(CC) -std=c99 $(CFLAGS) $(WARNINGS) examples/readable.c -o build/readable
+	$(CC) -std=c99 $(CFLAGS) $(WARNINGS) -Ibuild examples/readable.c -o build/readable
 	build/sheet <examples/$(EXAMPLE)/recipe >build/demo/sheet
 	(cat examples/$(EXAMPLE)/recipe; echo; cat examples/$(EXAMPLE)/frames) | build/run >build/demo/answers
 	@echo
@@ -84,7 +84,7 @@ uninstall:  ## remove what install put under PREFIX
 test:  ## the whole gate: .ci/run
 	bash .ci/run
 
-test-c: build  ## compile the header as C99 and C++11, check the marked cases, read the machine code, measure the stack
+test-c: build test-readable  ## compile the header as C99 and C++11, check the marked cases, read the machine code, measure the stack
 	@$(call need,$(CC),compile the C tests)
 	@$(call need,objdump,read the machine code (binutils))
 	$(CC) -std=c99 $(CFLAGS) $(WARNINGS) -Ibuild tests/c/compile.c $(LIBRARY) -lm -o build/compile-c
@@ -99,6 +99,10 @@ test-c: build  ## compile the header as C99 and C++11, check the marked cases, r
 	sh tests/c/machine_code.sh $(LIBRARY)
 	$(CC) -std=gnu11 $(CFLAGS) $(WARNINGS) -Ibuild tests/c/stack.c $(LIBRARY) -lpthread -o build/stack
 	build/stack
+
+test-readable: $(HEADER)  ## examples/readable.c on every example and on hostile files, under the sanitizers
+	@$(call need,$(CC),compile the example)
+	CC='$(CC)' CFLAGS='$(CFLAGS) $(WARNINGS)' sh tests/c/readable.sh build
 
 test-rust: build  ## compare the library with the independent second implementation
 	@$(call need,cargo,build the Rust tests)
@@ -164,5 +168,5 @@ fmt:  ## put Rattle and Rust sources in their layout
 clean:  ## remove everything that was built
 	rm -rf build target tests/target bindings/rust/target
 
-.PHONY: help build demo roundings install uninstall test test-c test-rust test-bindings test-install test-processors processors-deps test-endless \
+.PHONY: help build demo roundings install uninstall test test-c test-readable test-rust test-bindings test-install test-processors processors-deps test-endless \
 	test-exhaustive bench bench-deps fmt clean
