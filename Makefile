@@ -21,6 +21,11 @@ SOURCES = crates.txt $(shell find crates -name '*.rt' -o -name '*.antt')
 # $(call need,TOOL,PURPOSE): one line about what is missing instead of a shell's complaint.
 need = command -v $(1) >/dev/null || { echo "$(1) is missing: it is needed to $(2)" >&2; exit 1; }
 
+# $(call quoted,TEXT): one word of the shell, whatever is in it. $(call replacement,TEXT): what s|..|..| of sed puts in as it is.
+quoted = '$(subst ','\'',$(1))'
+replacement = $(subst |,\|,$(subst &,\&,$(subst \,\\,$(1))))
+DESTINATION = $(call quoted,$(DESTDIR)$(PREFIX))
+
 help:  ## this list
 	@awk -F ':.*## ' '/^[a-z-]+:.*## / { printf "  make %-16s %s\n", $$1, $$2 }' Makefile
 
@@ -68,18 +73,18 @@ roundings: build  ## show what each rounding makes of a dozen texture indices
 
 install: build  ## install programs, library, header, pkg-config file and manual pages under PREFIX (DESTDIR is put before it)
 	@$(call need,install,put files in their places (coreutils))
-	sed -e 's|@PREFIX@|$(PREFIX)|' -e 's|@VERSION@|$(VERSION)|' estrenwind.pc.in >build/estrenwind.pc
-	install -d $(addprefix $(DESTDIR)$(PREFIX)/,bin lib/pkgconfig include share/man/man1)
-	install -m 755 $(PROGRAMS) $(DESTDIR)$(PREFIX)/bin
-	install -m 644 $(LIBRARY) $(DESTDIR)$(PREFIX)/lib
-	install -m 644 build/estrenwind.pc $(DESTDIR)$(PREFIX)/lib/pkgconfig
-	install -m 644 $(HEADER) $(DESTDIR)$(PREFIX)/include
-	install -m 644 man/sheet.1 man/run.1 $(DESTDIR)$(PREFIX)/share/man/man1
+	sed -e $(call quoted,s|@PREFIX@|$(call replacement,$(PREFIX))|) -e 's|@VERSION@|$(VERSION)|' estrenwind.pc.in >build/estrenwind.pc
+	install -d $(addprefix $(DESTINATION)/,bin lib/pkgconfig include share/man/man1)
+	install -m 755 $(PROGRAMS) $(DESTINATION)/bin
+	install -m 644 $(LIBRARY) $(DESTINATION)/lib
+	install -m 644 build/estrenwind.pc $(DESTINATION)/lib/pkgconfig
+	install -m 644 $(HEADER) $(DESTINATION)/include
+	install -m 644 man/sheet.1 man/run.1 $(DESTINATION)/share/man/man1
 
 INSTALLED = bin/sheet bin/run lib/libestrenwind.a lib/pkgconfig/estrenwind.pc include/estrenwind.h share/man/man1/sheet.1 share/man/man1/run.1
 
 uninstall:  ## remove what install put under PREFIX
-	rm -f $(addprefix $(DESTDIR)$(PREFIX)/,$(INSTALLED))
+	rm -f $(addprefix $(DESTINATION)/,$(INSTALLED))
 
 test:  ## the whole gate: .ci/run
 	bash .ci/run
@@ -102,7 +107,7 @@ test-c: build test-readable  ## compile the header as C99 and C++11, check the m
 
 test-readable: $(HEADER)  ## examples/readable.c on every example and on hostile files, under the sanitizers
 	@$(call need,$(CC),compile the example)
-	CC='$(CC)' CFLAGS='$(CFLAGS) $(WARNINGS)' sh tests/c/readable.sh build
+	CC=$(call quoted,$(CC)) CFLAGS=$(call quoted,$(CFLAGS) $(WARNINGS)) sh tests/c/readable.sh build
 
 test-rust: build  ## compare the library with the independent second implementation
 	@$(call need,cargo,build the Rust tests)
@@ -113,7 +118,7 @@ test-bindings: build  ## the Rust crate in bindings/rust: its tests and the exam
 	cargo test $(CARGO_BINDINGS)
 
 test-install: build  ## install into build/installed, and build and run a C program and the Rust crate against that
-	CC=$(CC) sh tests/c/installed.sh $(CURDIR)/build/installed
+	CC=$(call quoted,$(CC)) sh tests/c/installed.sh $(call quoted,$(CURDIR)/build/installed)
 
 test-processors: build  ## the same answers on this processor and on two emulated ones, without and with SSE4.1 and AVX2
 	@$(call need,$(CC),compile the test)
@@ -142,7 +147,7 @@ test-exhaustive: build  ## compare them on every f32 there is, 2^32 patterns a f
 
 bench: build  ## time single calls beside glibc, musl and newlib, check the targets, and time runs, sheets and the program run beside plain ones
 	@$(call need,$(CC),compile the benchmark)
-	CC=$(CC) sh bench/references.sh build/bench
+	CC=$(call quoted,$(CC)) sh bench/references.sh build/bench
 	$(CC) -std=gnu99 -O2 -Wall -Wextra -falign-functions=64 -falign-loops=64 -Ibuild -Ibuild/bench bench/bench.c \
 		build/bench/musl.o build/bench/newlib.o $(LIBRARY) -lm -o build/bench/bench
 	@$(call need,cargo,build the plain interpreter)

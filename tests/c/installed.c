@@ -1,4 +1,7 @@
-/* Uses an installed Estrenwind as a stranger would: flags from pkg-config, the header by its name alone. Document 01's example. */
+/*
+ * Uses an installed Estrenwind as a stranger would: flags from pkg-config, the header by its name alone. Document 01's example; prints the
+ * version where it is right.
+ */
 #include <estrenwind.h>
 #include <stdio.h>
 #include <string.h>
@@ -29,5 +32,6 @@ int main(void)
         printf("the sheet is wrong\n");
         return 1;
     }
+    printf("%s\n", EW_VERSION);
     return 0;
 }
