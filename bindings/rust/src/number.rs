@@ -6,6 +6,7 @@ use std::fmt;
 
 /// What sort of number a pattern is, whatever its sign.
 #[derive(Clone, Copy, Debug, PartialEq, Eq, Hash)]
+#[non_exhaustive]
 pub enum Class {
     /// Not a number.
     Nan = 0,
@@ -20,22 +21,49 @@ pub enum Class {
 }
 
 /// Why a function has no answer.
+///
+/// Later versions may have more reasons. A number of the library that this version has no name for is kept:
+///
+/// ```
+/// use estrenwind::Reason;
+///
+/// assert_eq!(Reason::from(3), Reason::OutOfRange);
+/// assert_eq!(Reason::from(9), Reason::Other(9));
+/// assert_eq!(Reason::from(9).number(), 9);
+/// ```
 #[derive(Clone, Copy, Debug, PartialEq, Eq, Hash)]
+#[non_exhaustive]
 pub enum Reason {
     /// Refusal 1: a NaN has no whole number.
-    NotANumber = 1,
+    NotANumber,
     /// Refusal 2: an infinite number has no remainder, and none is left by zero.
-    NoRemainder = 2,
+    NoRemainder,
     /// Refusal 3: the result is infinite or does not fit.
-    OutOfRange = 3,
+    OutOfRange,
+    /// The refusal of this number, none of those above.
+    Other(u64),
 }
 
 impl Reason {
-    fn of(number: u64) -> Reason {
+    /// The refusal's number.
+    pub fn number(self) -> u64 {
+        match self {
+            Reason::NotANumber => 1,
+            Reason::NoRemainder => 2,
+            Reason::OutOfRange => 3,
+            Reason::Other(number) => number,
+        }
+    }
+}
+
+impl From<u64> for Reason {
+    /// The reason of a refusal's number.
+    fn from(number: u64) -> Reason {
         match number {
             1 => Reason::NotANumber,
             2 => Reason::NoRemainder,
-            _ => Reason::OutOfRange,
+            3 => Reason::OutOfRange,
+            number => Reason::Other(number),
         }
     }
 }
@@ -46,6 +74,7 @@ impl fmt::Display for Reason {
             Reason::NotANumber => "a NaN has no whole number",
             Reason::NoRemainder => "an infinite number has no remainder, and none is left by zero",
             Reason::OutOfRange => "the result is infinite or does not fit",
+            Reason::Other(number) => return write!(f, "refusal {number}"),
         })
     }
 }
@@ -74,7 +103,7 @@ fn answer<T>(refusal: u64, value: T) -> Answer<T> {
     match refusal {
         0 => Ok(value),
         number => Err(Refused {
-            reason: Reason::of(number),
+            reason: Reason::from(number),
             value,
         }),
     }

@@ -7,55 +7,122 @@ use std::fmt;
 /// Steps of the longest recipe: words of memory that are enough for every [`run`].
 pub const MOST_STEPS: usize = 128;
 
-/// Bytes of memory that are enough for every [`sheet`]: 37 a step.
-pub const MOST_SHEET: usize = 37 * MOST_STEPS;
+/// Bytes of a [`sheet`] per step.
+pub const SHEET_LINE: usize = 37;
 
-/// A step's value.
+/// Bytes of memory that are enough for every [`sheet`].
+pub const MOST_SHEET: usize = SHEET_LINE * MOST_STEPS;
+
+/// A step's value. Later versions may have more kinds of values.
 #[derive(Clone, Copy, Debug, PartialEq)]
+#[non_exhaustive]
 pub enum Value {
     /// A double, never a NaN.
     Double(f64),
     /// A whole number.
     Whole(i64),
+    /// The 64 bits of a value of this kind, none of those above.
+    Other {
+        /// The number of the kind.
+        kind: u64,
+        /// The value's bits.
+        word: u64,
+    },
+}
+
+impl Value {
+    fn of(kind: u64, word: u64) -> Value {
+        match kind {
+            1 => Value::Double(f64::from_bits(word)),
+            2 => Value::Whole(word as i64),
+            kind => Value::Other { kind, word },
+        }
+    }
 }
 
 /// What is wrong with a recipe or a frame.
+///
+/// Later versions may have more faults. A number of the library that this version has no name for is kept:
+///
+/// ```
+/// use estrenwind::Fault;
+///
+/// assert_eq!(Fault::from(32), Fault::Input);
+/// assert_eq!(Fault::from(99), Fault::Other(99));
+/// assert_eq!(Fault::from(99).number(), 99);
+/// ```
 #[derive(Clone, Copy, Debug, PartialEq, Eq, Hash)]
+#[non_exhaustive]
 pub enum Fault {
-    /// The text is empty, too long, or not whole lines of 39 bytes.
-    Length = 10,
-    /// A byte is not a lower-case hexadecimal digit, or a line does not end with a line feed.
-    Digit = 11,
-    /// There is no such opcode.
-    Opcode = 12,
-    /// A field that the step does not use is not zero.
-    Unused = 13,
-    /// An operand does not stand before the step.
-    Ahead = 14,
-    /// An operand is of the wrong kind.
-    Kind = 15,
-    /// A NaN in a double input or constant, or an input's low end above its high end.
-    Declared = 16,
-    /// A seventeenth input.
-    Inputs = 17,
-    /// fmod of an infinite number, or by zero. Of a sheet: it could happen.
-    Remainder = 20,
-    /// The answer does not fit 64 bits, or ldexp overflows. Of a sheet: it could happen.
-    Overflow = 21,
-    /// A whole number beyond 2^53 has no exact double. Of a sheet: it could happen.
-    Inexact = 22,
-    /// The frame does not have 16 digits for each input.
-    Frame = 30,
-    /// A byte of the frame is not a lower-case hexadecimal digit.
-    FrameDigit = 31,
-    /// An input is a NaN or outside its range.
-    Input = 32,
-    /// The lent memory is too short.
-    Room = 40,
+    /// 10: the text is empty, too long, or not whole lines of 39 bytes.
+    Length,
+    /// 11: a byte is not a lower-case hexadecimal digit, or a line does not end with a line feed.
+    Digit,
+    /// 12: there is no such opcode.
+    Opcode,
+    /// 13: a field that the step does not use is not zero.
+    Unused,
+    /// 14: an operand does not stand before the step.
+    Ahead,
+    /// 15: an operand is of the wrong kind.
+    Kind,
+    /// 16: a NaN in a double input or constant, or an input's low end above its high end.
+    Declared,
+    /// 17: a seventeenth input.
+    Inputs,
+    /// 20: fmod of an infinite number, or by zero. Of a sheet: it could happen.
+    Remainder,
+    /// 21: the answer does not fit 64 bits, or ldexp overflows. Of a sheet: it could happen.
+    Overflow,
+    /// 22: a whole number beyond 2^53 has no exact double. Of a sheet: it could happen.
+    Inexact,
+    /// 30: the frame does not have 16 digits for each input.
+    Frame,
+    /// 31: a byte of the frame is not a lower-case hexadecimal digit.
+    FrameDigit,
+    /// 32: an input is a NaN or outside its range.
+    Input,
+    /// 40: the lent memory is too short.
+    Room,
+    /// The refusal of this number, none of those above.
+    Other(u64),
 }
 
 impl Fault {
-    fn of(number: u64) -> Fault {
+    /// The refusal's number.
+    pub fn number(self) -> u64 {
+        match self {
+            Fault::Length => 10,
+            Fault::Digit => 11,
+            Fault::Opcode => 12,
+            Fault::Unused => 13,
+            Fault::Ahead => 14,
+            Fault::Kind => 15,
+            Fault::Declared => 16,
+            Fault::Inputs => 17,
+            Fault::Remainder => 20,
+            Fault::Overflow => 21,
+            Fault::Inexact => 22,
+            Fault::Frame => 30,
+            Fault::FrameDigit => 31,
+            Fault::Input => 32,
+            Fault::Room => 40,
+            Fault::Other(number) => number,
+        }
+    }
+
+    /// Whether the place of the refusal is a step's number, and not just 0.
+    fn has_step(self) -> bool {
+        !matches!(
+            self,
+            Fault::Length | Fault::Frame | Fault::FrameDigit | Fault::Room | Fault::Other(_)
+        )
+    }
+}
+
+impl From<u64> for Fault {
+    /// The fault of a refusal's number.
+    fn from(number: u64) -> Fault {
         match number {
             10 => Fault::Length,
             11 => Fault::Digit,
@@ -71,16 +138,9 @@ impl Fault {
             30 => Fault::Frame,
             31 => Fault::FrameDigit,
             32 => Fault::Input,
-            _ => Fault::Room,
+            40 => Fault::Room,
+            number => Fault::Other(number),
         }
-    }
-
-    /// Whether the place of the refusal is a step's number, and not just 0.
-    fn has_step(self) -> bool {
-        !matches!(
-            self,
-            Fault::Length | Fault::Frame | Fault::FrameDigit | Fault::Room
-        )
     }
 }
 
@@ -102,6 +162,7 @@ impl fmt::Display for Fault {
             Fault::FrameDigit => "not a lower-case hexadecimal digit in the frame",
             Fault::Input => "the input is a NaN or outside its range",
             Fault::Room => "the lent memory is too short",
+            Fault::Other(number) => return write!(f, "refusal {number}"),
         })
     }
 }
@@ -109,7 +170,7 @@ impl fmt::Display for Fault {
 /// What was refused, and where. Nothing was written then.
 #[derive(Clone, Copy, Debug, PartialEq, Eq, Hash)]
 pub struct TurnedDown {
-    /// What is wrong; `fault as u8` is the refusal's number.
+    /// What is wrong.
     pub fault: Fault,
     /// The step, where one is to blame; else 0.
     pub place: usize,
@@ -118,7 +179,7 @@ pub struct TurnedDown {
 impl TurnedDown {
     fn of(refusal: u64, place: u64) -> TurnedDown {
         TurnedDown {
-            fault: Fault::of(refusal),
+            fault: Fault::from(refusal),
             place: place as usize,
         }
     }
@@ -126,8 +187,10 @@ impl TurnedDown {
 
 impl fmt::Display for TurnedDown {
     fn fmt(&self, f: &mut fmt::Formatter) -> fmt::Result {
-        if self.fault.has_step() {
-            write!(f, "step {}: ", self.place)?;
+        match self.fault {
+            Fault::Other(_) => write!(f, "place {}: ", self.place)?,
+            fault if fault.has_step() => write!(f, "step {}: ", self.place)?,
+            _ => {}
         }
         self.fault.fmt(f)
     }
@@ -164,19 +227,18 @@ pub fn run(recipe: &[u8], frame: &[u8], words: &mut [u64]) -> Result<Value, Turn
             words.len(),
         )
     };
-    match (answer.refusal, answer.kind) {
-        (0, 1) => Ok(Value::Double(f64::from_bits(answer.word))),
-        (0, _) => Ok(Value::Whole(answer.word as i64)),
-        (refusal, _) => Err(TurnedDown::of(refusal, answer.place)),
+    match answer.refusal {
+        0 => Ok(Value::of(answer.kind, answer.word)),
+        refusal => Err(TurnedDown::of(refusal, answer.place)),
     }
 }
 
-/// Works out the range of every step of a recipe, over all frames whose inputs lie in their declared ranges, writes a line of 37 bytes a step
-/// to `lines` and gives the number of steps. Bytes past the last line stay as they were. A recipe whose sheet passes is refused by no step
-/// of a [`run`].
+/// Works out the range of every step of a recipe, over all frames whose inputs lie in their declared ranges, writes one line of [`SHEET_LINE`]
+/// bytes per step to `lines` and gives the number of steps. Bytes past the last line stay as they were. A recipe whose sheet passes is refused
+/// by no step of a [`run`].
 ///
 /// ```
-/// use estrenwind::{sheet, Fault, MOST_SHEET};
+/// use estrenwind::{sheet, Fault, MOST_SHEET, SHEET_LINE};
 ///
 /// let recipe = b"010000c004000000000000401d000000000000\n\
 ///                10000000000000000000000000000000000000\n\
@@ -184,7 +246,7 @@ pub fn run(recipe: &[u8], frame: &[u8], words: &mut [u64]) -> Result<Value, Turn
 /// let mut lines = [0; MOST_SHEET];
 /// let steps = sheet(recipe, &mut lines)?;
 /// assert_eq!(
-///     &lines[..37 * steps],
+///     &lines[..SHEET_LINE * steps],
 ///     b"0001c004000000000000401d000000000000\n\
 ///       0101c008000000000000401c000000000000\n\
 ///       0202fffffffffffffffd0000000000000007\n"
@@ -209,5 +271,19 @@ pub fn sheet(recipe: &[u8], lines: &mut [u8]) -> Result<usize, TurnedDown> {
     match answer.refusal {
         0 => Ok(answer.steps as usize),
         refusal => Err(TurnedDown::of(refusal, answer.place)),
+    }
+}
+
+#[cfg(test)]
+mod tests {
+    use super::*;
+
+    #[test]
+    fn a_kind_without_a_name_is_kept() {
+        assert_eq!(Value::of(1, 0x3ff0000000000000), Value::Double(1.0));
+        assert_eq!(Value::of(2, u64::MAX), Value::Whole(-1));
+        for kind in [0, 3, u64::MAX] {
+            assert_eq!(Value::of(kind, 7), Value::Other { kind, word: 7 });
+        }
     }
 }

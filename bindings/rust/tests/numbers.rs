@@ -130,6 +130,25 @@ fn refusals() {
     );
 }
 
+/// Every number is kept, whether this version has a name for it or not.
+#[test]
+fn reasons() {
+    for number in (0..1000).chain([u64::MAX]) {
+        let reason = Reason::from(number);
+        assert_eq!(reason.number(), number);
+        assert_eq!(
+            matches!(reason, Reason::Other(_)),
+            !(1..=3).contains(&number)
+        );
+    }
+    let refused = Refused {
+        reason: Reason::from(9),
+        value: 0.5,
+    };
+    assert_eq!(refused.reason, Reason::Other(9));
+    assert_eq!(refused.to_string(), "refusal 9");
+}
+
 /// A NaN's sign and payload pass through the functions on patterns.
 #[test]
 fn patterns() {

@@ -1,6 +1,8 @@
 //! Sheets and runs through the crate: the examples of the repository, and the lent memory.
 
-use estrenwind::{run, sheet, Fault, TurnedDown, Value, MOST_SHEET, MOST_STEPS};
+use estrenwind::{
+    run, sheet, Fault, Reason, TurnedDown, Value, MOST_SHEET, MOST_STEPS, SHEET_LINE,
+};
 use std::fs;
 use std::path::Path;
 
@@ -13,7 +15,7 @@ fn turned_down(fault: Fault, place: usize) -> TurnedDown {
 }
 
 fn refusal_line(refused: TurnedDown) -> String {
-    format!("ff{:02x}{:02x}", refused.fault as u8, refused.place)
+    format!("ff{:02x}{:02x}", refused.fault.number(), refused.place)
 }
 
 #[test]
@@ -30,7 +32,7 @@ fn the_examples() {
         let recipe = read("recipe");
         let mut lines = [0; MOST_SHEET];
         let shown = match sheet(recipe.as_bytes(), &mut lines) {
-            Ok(steps) => String::from_utf8(lines[..37 * steps].to_vec()).unwrap(),
+            Ok(steps) => String::from_utf8(lines[..SHEET_LINE * steps].to_vec()).unwrap(),
             Err(refused) => format!("{}\n", refusal_line(refused)),
         };
         assert_eq!(shown, read("sheet"));
@@ -38,6 +40,7 @@ fn the_examples() {
             let answer = match run(recipe.as_bytes(), frame.as_bytes(), &mut [0; MOST_STEPS]) {
                 Ok(Value::Double(x)) => format!("01{:016x}", x.to_bits()),
                 Ok(Value::Whole(n)) => format!("02{n:016x}"),
+                Ok(other) => panic!("{other:?}"),
                 Err(refused) => refusal_line(refused),
             };
             assert_eq!(answer, expected);
@@ -102,4 +105,52 @@ fn refusals() {
         sheet(&RECIPE[39..], &mut [0; MOST_SHEET]),
         Err(turned_down(Fault::Ahead, 0))
     );
+}
+
+/// Every number is kept, and every refusal of the header has a name.
+#[test]
+fn faults_and_reasons_are_the_header_s() {
+    let header = Path::new(env!("CARGO_MANIFEST_DIR")).join("../../include/estrenwind.h");
+    let header = fs::read_to_string(header).unwrap();
+    let named: Vec<u64> = header
+        .lines()
+        .filter_map(|line| line.trim().strip_prefix("EW_REFUSED_")?.split_once(" = "))
+        .map(|(_, rest)| {
+            let digits = rest.split(|c: char| !c.is_ascii_digit()).next();
+            digits.unwrap().parse().unwrap()
+        })
+        .collect();
+    assert_eq!(named.len(), 18);
+    for number in (0..1000).chain([u64::MAX]) {
+        let (fault, reason) = (Fault::from(number), Reason::from(number));
+        assert_eq!((fault.number(), reason.number()), (number, number));
+        let has_name = !matches!(fault, Fault::Other(_)) || !matches!(reason, Reason::Other(_));
+        assert_eq!(has_name, named.contains(&number), "{number}");
+    }
+}
+
+#[test]
+fn a_fault_without_a_name() {
+    let refused = turned_down(Fault::from(99), 7);
+    assert_eq!(refused.fault, Fault::Other(99));
+    assert_eq!(refused.to_string(), "place 7: refusal 99");
+    assert_eq!(refusal_line(refused), "ff6307");
+}
+
+/// A `match` on an enum of another crate has to leave room for cases of a later version.
+#[test]
+fn every_public_enum_may_grow() {
+    let folder = Path::new(env!("CARGO_MANIFEST_DIR")).join("src");
+    let mut found = 0;
+    for entry in fs::read_dir(folder).unwrap() {
+        let source = fs::read_to_string(entry.unwrap().path()).unwrap();
+        let lines: Vec<&str> = source.lines().collect();
+        for pair in lines.windows(2) {
+            if pair[1].starts_with("pub enum ") {
+                assert_eq!(pair[0], "#[non_exhaustive]", "{}", pair[1]);
+                found += 1;
+            }
+        }
+    }
+    assert_eq!(found, 4);
 }
