@@ -14,6 +14,8 @@
  * "Quieted" means the same pattern with the top fraction bit set.
  *
  * Link with libestrenwind.a (x86-64). For C99 and C++11 or later.
+ *
+ * SPDX-License-Identifier: Apache-2.0 OR MIT
  */
 #ifndef ESTRENWIND_H
 #define ESTRENWIND_H
