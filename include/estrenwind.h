@@ -2,16 +2,15 @@
  * Estrenwind: rounding, splitting, scaling and remainders of IEEE 754 numbers, exact to the last bit, and recipes of such steps.
  *
  * A function whose name ends in _f64 or _f32 takes and returns bit patterns: the 64 bits of a double as a uint64_t, the 32
- * bits of a float as a uint32_t. A NaN's sign and payload pass through a pattern untouched. Under each pair stand two forms
- * on double and float, with C's names, that only move the bits.
+ * bits of a float as a uint32_t. So a host cannot change a NaN's bits on the way in or out, and what a function makes of a NaN
+ * is what its comment says: mostly the same NaN "quieted", which means the same pattern with the top fraction bit set. Under
+ * each pair stand two forms on double and float, with C's names, that only move the bits.
  *
  * Every answer is worked out in whole-number arithmetic. None depends on the rounding mode, on flush-to-zero (FTZ) or on
  * denormals-are-zero (DAZ); none reads or sets errno or an exception flag. Code compiled with -ffast-math may assume that
  * its own doubles are never NaN, infinite or -0: there, use the patterns.
  *
  * Nothing here keeps state or allocates memory: any number of threads may call anything at once.
- *
- * "Quieted" means the same pattern with the top fraction bit set.
  *
  * Link with libestrenwind.a (x86-64). For C99 and C++11 or later.
  *
@@ -237,7 +236,11 @@ typedef struct { double whole, fraction; } ew_double_parts;
 typedef struct { float whole, fraction; } ew_float_parts;
 
 /*
- * ew_modf returns trunc(x) and what x has past it, each with x's sign. Added together they are x again, to the bit.
+ * ew_modf returns trunc(x) and what x has past it, each with x's sign.
+ *
+ * For an x that is not a NaN, whole + fraction in C is x again, to the bit and in every rounding mode, but for this: it is the
+ * host that adds. With FTZ or DAZ set it gives a zero of x's sign for a subnormal x (whose fraction is x itself), and
+ * -ffast-math may lose the sign of a zero. The two parts themselves are the same on every host.
  *
  * Special cases are:
  *     modf(±0) = ±0, ±0
