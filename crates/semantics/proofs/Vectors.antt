@@ -1,26 +1,31 @@
--- Document 01's recipe with its whole sheet and its two frames, and the range rules at their corners, by the definitions: claims that antt
--- computes. Assumes nothing.
-use mathlib.Core.Path.{_≡_, refl}
+-- Document 01's recipe with its whole sheet and its two frames, what demand 3 comes to of it, and the range rules at their corners, by the
+-- definitions: claims that antt computes. Assumes nothing.
+use mathlib.Core.Path.{_≡_, refl, _∙_}
 use mathlib.Core.List.{List, [], _∷_, _++_, map}
 use Prim.Native.Nat.{ℕ}
+use native.Mathlib.Omega.{arith}
 use lib.Ieee.{size, span, climb}
 use lib.IntN.{pos, negsuc}
+use lib.ListN.{length}
 use Rattle.float_format.specs.Format.{isNan, isInfinite, isZero, quieted, absolute, negated}
 use Rattle.float_format.specs.Number.{magnitude, encode, above, under}
 use Rattle.float_format.specs.Rounding.{parts, wholePart, integral, lroundRefusal, lroundValue}
 use Rattle.ordering.specs.Ordering.{fmin, fmax}
 use Rattle.scaling.specs.Scaling.{nearest, scaled, ldexp, ldexpRefusal}
 use Rattle.hex.specs.Hex.{digits, fieldOf, digitOf}
+use Rattle.recipe.specs.declared.Step.{Step}
 use Rattle.recipe.specs.Table.{rowOf}
-use Rattle.recipe.specs.Text.{readText, readFrom, onNext, nextOf, judged, stepRefusal, inputsIn, lineAt, fromFields}
+use Rattle.recipe.specs.Text.{short, step, steps, readText, readFrom, onNext, nextOf, judged, stepRefusal, inputsIn, lineAt, fromFields}
 use Rattle.recipe.proofs.Examples.{bytes, lines}
-use Rattle.semantics.specs.Value.{ruleOf, stepValue}
+use Rattle.semantics.specs.Value.{Datum, double, whole, ruleOf, stepValue}
 use Rattle.semantics.specs.Range.{Range, doubles, wholes, Ranged, ranged, refused, rangeRule, stepRange}
 use Rattle.semantics.specs.Frame.{onField, onWords, wordsFrom, readFrame}
 use Rattle.semantics.specs.Frame as frame
-use Rattle.semantics.specs.Run.{onOutcome, runFrom, onFrame, callOn, runSteps, runOf, answerOf}
+use Rattle.semantics.specs.Run.{completed, onOutcome, runFrom, onFrame, callOn, runSteps, runOf, answerOf, wordsOf}
 use Rattle.semantics.specs.Run as run
 use Rattle.semantics.specs.Sheet.{onRanged, sheetFrom, sheetSteps, onText, sheetOf, linesFrom, bytesOf}
+use Rattle.semantics.specs.Promise.{Given, Promised, Lies}
+use Rattle.semantics.proofs.Sound.Recipes.{text-sound}
 
 -- ---- document 01's recipe: floor of an input, then lround
 
@@ -41,6 +46,62 @@ run-example = refl
 pub refused-example : answerOf (runOf recipe (bytes "401e000000000000") 3) ≡ record { refusal = 32; place = 0; kind = 0; word = 0 }
 unfolding recipe bytes lines readText readFrom onNext nextOf judged stepRefusal inputsIn lineAt fromFields rowOf fieldOf digitOf isNan above under magnitude runOf run.onText runSteps callOn onFrame readFrame onWords wordsFrom onField frame.ranged
 refused-example = refl
+
+-- ---- demand 3 of it, on the frame of -0.5: what the promise asks for is there, and this is what it gives
+
+-- its steps, and the ranges that its sheet shows
+abbrev pub example-steps : List Step
+example-steps = step 0x01 0 0 0xc004_0000_0000_0000 0x401d_0000_0000_0000 ∷ step 0x10 0 0 0 0 ∷ step 0x18 1 0 0 0 ∷ []
+
+abbrev pub example-ranges : List Range
+example-ranges =
+    doubles 0xc004_0000_0000_0000 0x401d_0000_0000_0000 ∷ doubles 0xc008_0000_0000_0000 0x401c_0000_0000_0000 ∷ wholes (negsuc 2) (pos 7) ∷ []
+
+-- the values: -0.5, its floor -1, and that as a whole number
+abbrev pub example-values : List Datum
+example-values = double 0xbfe0_0000_0000_0000 ∷ double 0xbff0_0000_0000_0000 ∷ whole (negsuc 0) ∷ []
+
+-- the frame's digits; a lent word for each step, and one past them
+abbrev pub example-frame : List ℕ
+example-frame = bytes "bfe0000000000000"
+
+abbrev pub example-lent : List ℕ
+example-lent = 10 ∷ 11 ∷ 12 ∷ 13 ∷ []
+
+pub read-example : readText short recipe ≡ steps example-steps
+unfolding recipe bytes lines readText readFrom onNext nextOf judged stepRefusal inputsIn lineAt fromFields rowOf fieldOf digitOf isNan above under magnitude
+read-example = refl
+
+pub given-example : Given example-steps example-frame (length example-lent) example-ranges (0xbfe0_0000_0000_0000 ∷ [])
+unfolding bytes inputsIn rowOf fieldOf digitOf isNan above under magnitude readFrame onWords wordsFrom onField frame.ranged sheetFrom onRanged stepRange rangeRule integral parts wholePart lroundRefusal lroundValue encode isInfinite isZero quieted size span climb
+given-example = record { passes = refl; admits = refl; fits = omega arith }
+
+pub promised-example : Promised example-steps example-frame example-lent example-ranges
+    (answerOf (runOf recipe example-frame 4)) (wordsOf (runOf recipe example-frame 4) example-lent)
+promised-example = text-sound recipe example-steps read-example example-frame example-lent example-ranges (0xbfe0_0000_0000_0000 ∷ []) given-example
+
+run-values : runSteps example-steps example-frame 4 ≡ completed example-values
+unfolding bytes inputsIn rowOf fieldOf digitOf isNan above under magnitude runSteps callOn onFrame readFrame onWords wordsFrom onField frame.ranged runFrom onOutcome stepValue ruleOf integral parts wholePart lroundRefusal lroundValue encode isInfinite isZero quieted size span climb
+run-values = refl
+
+-- the values are these
+pub values-example : promised-example .values ≡ example-values
+values-example = cc (run-values, promised-example .completes)
+
+-- each lies in its range
+pub lie-example : Lies (doubles 0xc004_0000_0000_0000 0x401d_0000_0000_0000) (double 0xbfe0_0000_0000_0000)
+    × Lies (doubles 0xc008_0000_0000_0000 0x401c_0000_0000_0000) (double 0xbff0_0000_0000_0000)
+    × Lies (wholes (negsuc 2) (pos 7)) (whole (negsuc 0))
+lie-example = (
+  rw values-example at (promised-example .lie 0 (omega arith)),
+  rw values-example at (promised-example .lie 1 (omega arith)),
+  rw values-example at (promised-example .lie 2 (omega arith)),
+)
+
+-- and they are what is written, the word past them staying as lent
+pub written-example : wordsOf (runOf recipe example-frame 4) example-lent
+    ≡ 0xbfe0_0000_0000_0000 ∷ 0xbff0_0000_0000_0000 ∷ 0xffff_ffff_ffff_ffff ∷ 13 ∷ []
+written-example = promised-example .written ∙ rw values-example
 
 -- ---- the range rules at their corners
 
