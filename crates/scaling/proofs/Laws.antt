@@ -200,17 +200,19 @@ pub ldexp-by-zero : (f : Format) (x : ℕ) → Valid f → x < 2 * signBit f →
 ldexp-by-zero f x v p h =
     ⊎-elim (λ e. ldexp-of-infinity f x (pos 0) e .0) (λ l. ldexp-exact f x x (pos 0) v p l l refl refl .0) (eq-or-lt-of-le h)
 
--- ldexp undoes frexp, to the bit
-pub ldexp-frexp : (f : Format) (x : ℕ) → Valid f → x < 2 * signBit f → unsigned f x < infinity f
-    → ldexp f (frexpFraction f x) (frexpExponent f x) ≡ x
+-- x comes back from the fraction y and the exponent n, to the bit, and nothing is refused
+abbrev pub Undone : Format → ℕ → ℕ → ℤ → Type 0
+Undone f x y n = (ldexp f y n ≡ x) × (ldexpRefusal f y n ≡ 0)
+
+-- ldexp undoes frexp
+pub ldexp-frexp : (f : Format) (x : ℕ) → Valid f → x < 2 * signBit f → unsigned f x < infinity f → Undone f x (frexpFraction f x) (frexpExponent f x)
 ldexp-frexp f x v p h = ⊎-elim (λ some. other (fraction f x v some h)) (λ none. zero (omega arith)) (lt-or-ge 0 (unsigned f x))
   where
-    zero : unsigned f x ≡ 0 → ldexp f (frexpFraction f x) (frexpExponent f x) ≡ x
-    zero e =
-        ap (λ (y : ℕ). ldexp f y (frexpExponent f x)) (frexp-of-zero f x v e .0) ∙ ldexp-of-zero f x (frexpExponent f x) v p e .0
+    zero : unsigned f x ≡ 0 → Undone f x (frexpFraction f x) (frexpExponent f x)
+    zero e = rw (frexp-of-zero f x v e .0) (ldexp-of-zero f x (frexpExponent f x) v p e)
 
-    other : Fraction f x → ldexp f (frexpFraction f x) (frexpExponent f x) ≡ x
-    other t = ldexp-exact f (frexpFraction f x) x (frexpExponent f x) v p (t .finite) h (t .sign) (t .back) .0
+    other : Fraction f x → Undone f x (frexpFraction f x) (frexpExponent f x)
+    other t = ldexp-exact f (frexpFraction f x) x (frexpExponent f x) v p (t .finite) h (t .sign) (t .back)
 
 -- ---- the nearest number of the format
 
