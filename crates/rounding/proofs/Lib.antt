@@ -1,6 +1,7 @@
--- Laws in the shape of the code, over the open width.
+-- Laws in the shape of the code, over the open width; and what lround has to do with round.
 pub mod Shifts
 pub mod Carry
 pub mod Directions
 pub mod Count
 pub mod Single
+pub mod AsWhole
