@@ -1,4 +1,5 @@
 -- Laws of the definitions, over the open width: first what the proofs here and above are made of, then what a user would state.
+pub mod Widths
 pub mod Table
 pub mod Units
 pub mod Patterns

@@ -22,6 +22,7 @@ pub fn fmod(x: u32, y: u32) -> Word32
         let answer = super::special_answer(
             Binary32::FRACTION_BITS,
             Binary32::EXPONENT_BITS,
+            Binary32::DEFAULT_NAN as u64,
             x as u64,
             y as u64,
         );

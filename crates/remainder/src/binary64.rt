@@ -14,7 +14,13 @@ pub fn fmod(x: u64, y: u64) -> Word64
     ensures { λ r. ⌜ (r .word ≡ fmod binary64 x y) × (r .refusal ≡ fmodRefusal binary64 x y) ⌝ }
 {
     if super::special(Binary64::FRACTION_BITS, Binary64::EXPONENT_BITS, x, y) {
-        return super::special_answer(Binary64::FRACTION_BITS, Binary64::EXPONENT_BITS, x, y);
+        return super::special_answer(
+            Binary64::FRACTION_BITS,
+            Binary64::EXPONENT_BITS,
+            Binary64::DEFAULT_NAN,
+            x,
+            y,
+        );
     }
     if super::smaller(Binary64::FRACTION_BITS, Binary64::EXPONENT_BITS, x, y) {
         return Word64 {

@@ -8,7 +8,7 @@ ghost use mathlib.Core.Path.{_≡_};
 ghost use Prim.Native.Nat.{_+_, _-_, _*_, _/_, _%_, _^_, _<_, _≤_};
 ghost use lib.Dec.{ltb};
 ghost use mathlib.Core.Bool.{true};
-ghost use Rattle.float_format.specs.Format.{signBit, unsigned};
+ghost use Rattle.float_format.specs.Format.{signBit, defaultNan, unsigned};
 ghost use Rattle.float_format.specs.Width.{format, InWord};
 ghost use Rattle.remainder.specs.Remainder.{fmod, fmodRefusal};
 ghost use Rattle.remainder.specs.Shape.{Turn, Turns, topOf, inverseOf, scaleOf, isSpecial, Ordinary, Left};
@@ -124,9 +124,10 @@ fn special(fraction: u64, exponent: u64, x: u64, y: u64) -> bool
     a >= infinity || b >= infinity || b == 0
 }
 
-// What is answered there: the first NaN quieted, refusal 2 with the default NaN, or x where only y is infinite.
-fn special_answer(fraction: u64, exponent: u64, x: u64, y: u64) -> Word64
-    requires { ⌜ InWord (format fraction exponent) × (x < 2 * signBit (format fraction exponent)) × (y < 2 * signBit (format fraction exponent)) × (isSpecial (format fraction exponent) x y ≡ true) ⌝ }
+// What is answered there: the first NaN quieted, refusal 2 with the default NaN, or x where only y is infinite. `nan` is that default NaN,
+// which each width has as a constant.
+fn special_answer(fraction: u64, exponent: u64, nan: u64, x: u64, y: u64) -> Word64
+    requires { ⌜ InWord (format fraction exponent) × (x < 2 * signBit (format fraction exponent)) × (y < 2 * signBit (format fraction exponent)) × (isSpecial (format fraction exponent) x y ≡ true) × (nan ≡ defaultNan (format fraction exponent)) ⌝ }
     ensures { λ r. ⌜ (r .word ≡ fmod (format fraction exponent) x y) × (r .refusal ≡ fmodRefusal (format fraction exponent) x y) × (r .word < 2 * signBit (format fraction exponent)) ⌝ }
 {
     let infinity = infinity_of(fraction, exponent);
@@ -146,7 +147,7 @@ fn special_answer(fraction: u64, exponent: u64, x: u64, y: u64) -> Word64
     }
     if a == infinity || b == 0 {
         return Word64 {
-            word: infinity + power(fraction - 1),
+            word: nan,
             refusal: 2,
         };
     }

@@ -1,12 +1,11 @@
 -- `special_answer` meets its contract: each return is one case of `Cases`, at the tests that led there. Assumes nothing.
 use mathlib.Core.Path.{_≡_, refl, _∙_}
 use mathlib.Core.Logic.{inl, inr, ⊎-elim}
-use Prim.Native.Nat.{_+_, _≤_, _<_}
+use Prim.Native.Nat.{_≤_, _<_}
 use native.Mathlib.Omega.{arith}
 use borrow.Author.Tests.{eqb-true, eqb-false}
-use Rattle.float_format.specs.Format.{Format, infinity, defaultNan, unsigned}
+use Rattle.float_format.specs.Format.{Format, infinity, unsigned}
 use Rattle.float_format.specs.Width.{format}
-use Rattle.float_format.proofs.Sizes.{sizes}
 use Rattle.remainder.proofs.Cases.{answered, nan-first, nan-second, no-remainder, infinite-divisor, special-last, default-nan-lt}
 use borrow.Author.Needs.{needs}
 use Rattle.remainder.proofs.special_answer.Statement.{statement}
@@ -22,9 +21,6 @@ no-nan-x c = omega (arith, c .if1 .left, c .before .before .rest .ensures, c .be
 
 no-nan-y : (c : tie.Else2) → unsigned (at (c .before .before .before .before .before)) (c .before .before .before .before .before .args .y) ≤ infinity (at (c .before .before .before .before .before))
 no-nan-y c = omega (arith, c .if2 .left, c .before .before .rest2 .ensures, c .before .before .before .before .infinity-of .ensures)
-
-nan-is : (c : tie.After-power) → c .before .before .before .before .before .before .infinity-of .result + c .power .result ≡ defaultNan (at (c .before .before .before .before .before .before .before))
-nan-is c = rw (c .before .before .before .before .before .before .infinity-of .ensures, c .power .ensures)
 
 infinity-of-requires : tie.Need-infinity-of-requires
 infinity-of-requires c κs = search needs
@@ -57,29 +53,18 @@ returns-2 c =
     (c .quiet2 .ensures .0)
     (c .quiet2 .ensures .1)
 
-sub-power : tie.Need-sub-power
-sub-power c = search needs
-
-power-requires : tie.Need-power-requires
-power-requires c κs = search needs
-
-add-t15 : tie.Need-add-t15
-add-t15 c =
-    let s = c .before .before .before .before .before .before .before in
-    omega (arith, nan-is c, default-nan-lt (at s) (s .pre .0 .valid), sizes (at s) (s .pre .0) .sign-le)
-
 returns-3 : tie.Need-returns-3
 returns-3 c =
-    let s = c .before .before .before .before .before .before .before in
-    let i = c .before .before .before .before .before .before .infinity-of .ensures in
+    let s = c .before .before .before .before .before .before in
+    let i = c .before .before .before .before .before .infinity-of .ensures in
     answered (at s) (s .args .x) (s .args .y) _
-    (no-remainder (at s) (s .args .x) (s .args .y) (no-nan-x (c .before .before .before)) (no-nan-y (c .before .before))
+    (no-remainder (at s) (s .args .x) (s .args .y) (no-nan-x (c .before .before)) (no-nan-y (c .before))
     (⊎-elim
-    (λ w. inl (omega (arith, w .taken, c .before .before .before .before .before .rest .ensures, i)))
-    (λ w. inr (omega (arith, eqb-true (c .before .before .before .before .rest2 .result) 0 (w .1 .taken), c .before .before .before .before .rest2 .ensures)))
-    (c .before .if3 .came)))
-    (nan-is c)
-    (omega (arith, nan-is c, default-nan-lt (at s) (s .pre .0 .valid)))
+    (λ w. inl (omega (arith, w .taken, c .before .before .before .before .rest .ensures, i)))
+    (λ w. inr (omega (arith, eqb-true (c .before .before .before .rest2 .result) 0 (w .1 .taken), c .before .before .before .rest2 .ensures)))
+    (c .if3 .came)))
+    (s .pre .4)
+    (omega (arith, s .pre .4, default-nan-lt (at s) (s .pre .0 .valid)))
 
 returns-4 : tie.Need-returns-4
 returns-4 c =
@@ -104,8 +89,5 @@ special-answer-spec =
     returns
     quiet-requires-2
     returns-2
-    sub-power
-    power-requires
-    add-t15
     returns-3
     returns-4)

@@ -1,5 +1,5 @@
 -- `binary32::fmod` meets its contract: past the first test both operands are ordinary. Assumes nothing.
-use mathlib.Core.Path.{sym, _∙_}
+use mathlib.Core.Path.{refl, sym, _∙_}
 use native.Mathlib.Omega.{arith}
 use borrow.Author.Tests.{ltb-false}
 use Rattle.float_format.specs.Format.{binary32}
@@ -16,11 +16,14 @@ at c =
 special-requires : tie.Need-special-requires
 special-requires c κs = search needs
 
-special-answer-requires : tie.Need-special-answer-requires
-special-answer-requires c κs = (search needs, omega arith, omega arith, sym (c .before .special .ensures) ∙ c .if1 .taken)
+cast-special-answer : tie.Need-cast-special-answer
+cast-special-answer c = search needs
 
-cast-t10 : tie.Need-cast-t10
-cast-t10 c = search needs
+special-answer-requires : tie.Need-special-answer-requires
+special-answer-requires c κs = (search needs, omega arith, omega arith, sym (c .before .special .ensures) ∙ c .if1 .taken, refl)
+
+cast-t11 : tie.Need-cast-t11
+cast-t11 c = search needs
 
 returns : tie.Need-returns
 returns c = search needs
@@ -37,8 +40,8 @@ remainder-at-scale-requires c κs = (at (c .before .before), ltb-false _ _ (sym 
 with-remainder-requires : tie.Need-with-remainder-requires
 with-remainder-requires c κs = (at (c .before .before .before), c .remainder-at-scale .ensures)
 
-cast-t13 : tie.Need-cast-t13
-cast-t13 c = search needs
+cast-t14 : tie.Need-cast-t14
+cast-t14 c = search needs
 
 returns-3 : tie.Need-returns-3
 returns-3 c = (c .with-remainder .ensures .0, left-refuses binary32 (c .before .before .before .before .before .before .args .x) (c .before .before .before .before .before .before .args .y) (at (c .before .before .before .before)))
@@ -48,12 +51,13 @@ fmod-spec =
     tie.close
     (tie.spec
     special-requires
+    cast-special-answer
     special-answer-requires
-    cast-t10
+    cast-t11
     returns
     smaller-requires
     returns-2
     remainder-at-scale-requires
     with-remainder-requires
-    cast-t13
+    cast-t14
     returns-3)

@@ -1,5 +1,5 @@
 -- `binary64::fmod` meets its contract: past the first test both operands are ordinary. Assumes nothing.
-use mathlib.Core.Path.{sym, _∙_}
+use mathlib.Core.Path.{refl, sym, _∙_}
 use native.Mathlib.Omega.{arith}
 use borrow.Author.Tests.{ltb-false}
 use Rattle.float_format.specs.Format.{binary64}
@@ -17,7 +17,7 @@ special-requires : tie.Need-special-requires
 special-requires c κs = search needs
 
 special-answer-requires : tie.Need-special-answer-requires
-special-answer-requires c κs = (search needs, omega arith, omega arith, sym (c .before .special .ensures) ∙ c .if1 .taken)
+special-answer-requires c κs = (search needs, omega arith, omega arith, sym (c .before .special .ensures) ∙ c .if1 .taken, refl)
 
 returns : tie.Need-returns
 returns c = search needs
