@@ -1,15 +1,29 @@
 //! The header, docs/FORMATS.md and the manual pages tell the same refusals, and their examples are what the
 //! programs print. The version is the same wherever it stands, and the header's sizes are the reference's.
+//! docs/CONTRACTS.md names every must-fail edit, and no other.
 
 use estrenwind_tests::programs::{run_output, sheet_output};
 use estrenwind_tests::reference::recipe::{frame, sheet, text, Way};
-use std::collections::BTreeMap;
+use std::collections::{BTreeMap, BTreeSet};
 use std::fs;
-use std::path::Path;
+use std::path::{Path, PathBuf};
+
+fn path(name: &str) -> PathBuf {
+    Path::new(env!("CARGO_MANIFEST_DIR")).join("..").join(name)
+}
 
 fn read(name: &str) -> String {
-    let path = Path::new(env!("CARGO_MANIFEST_DIR")).join("..").join(name);
+    let path = path(name);
     fs::read_to_string(&path).unwrap_or_else(|error| panic!("{}: {error}", path.display()))
+}
+
+/// The names of what is in a folder, none if there is no such folder.
+fn listed(name: &str) -> Vec<String> {
+    let name_of = |entry: std::io::Result<fs::DirEntry>| entry.unwrap().file_name();
+    let entries = fs::read_dir(path(name)).into_iter().flatten();
+    entries
+        .map(|entry| name_of(entry).into_string().unwrap())
+        .collect()
 }
 
 /// The header's names by number.
@@ -172,4 +186,26 @@ fn sizes_are_the_reference_s() {
         let value = defined(name);
         assert!(value.contains(&format!("/* {size}: ")), "{value}");
     }
+}
+
+#[test]
+fn contracts_names_every_edit() {
+    let mut edits = BTreeSet::new();
+    for name in listed("crates") {
+        for file in listed(&format!("crates/{name}/must-fail")) {
+            let edit = file.strip_suffix(".edit").expect("an edit");
+            edits.insert(format!("{name}/{edit}"));
+        }
+    }
+    assert!(edits.len() > 90, "{}", edits.len());
+
+    let contracts = read("docs/CONTRACTS.md");
+    let named: BTreeSet<String> = contracts
+        .lines()
+        .filter(|line| line.starts_with("    ruled out") || line.starts_with("                "))
+        .filter_map(|line| line.split_whitespace().last())
+        .filter(|word| word.contains('/'))
+        .map(str::to_string)
+        .collect();
+    assert_eq!(named, edits);
 }
