@@ -1,61 +1,23 @@
 -- Any chunking gives the same output. The idea: `Fed` says what a piece comes to for every continuation of the input, so pieces join; a chunk
 -- is its pieces, the input its chunks. Assumes nothing.
 use mathlib.Core.Path.{_≡_, refl, ap, _∙_, sym}
-use mathlib.Core.List.{List, [], _∷_, _++_, append-assoc}
+use mathlib.Core.List.{List, [], _∷_, _++_, append-assoc, append-nil}
 use Prim.Native.Nat.{ℕ, _≤_}
 use native.Mathlib.Omega.{arith}
-use lib.ListN.{length}
+use lib.ListN.{length, take}
 use Rattle.recipe.proofs.Counts.{never}
 use Rattle.programs.specs.declared.State.{State}
 use Rattle.programs.specs.declared.Stage.the-variants.{Done}
 use Rattle.programs.specs.Output.{runOutput}
-use Rattle.programs.specs.Stage.{Reading, heading, running, stopped, owed, Stands, Fed, Whole, Finished, between}
+use Rattle.programs.specs.Stage.{Reading, heading, running, stopped, owed, Stands, Standing, Fed, between}
+use Rattle.programs.specs.Course.{Starts, Feeds, Finishes, Course, starts, reads, feeds, joined, Followed}
 use Rattle.programs.proofs.Pieces.{between-none, between-join, between-whole}
-
--- ---- what the calls ensure
-
--- `start`
-abbrev pub Starts : State → Type 0
-Starts s = (buffer w : List ℕ) → Stands (heading []) s buffer w
-
--- `feed`: from one state, buffer and words to the next, a piece of the chunk read and some bytes written
-abbrev pub Feeds : State → List ℕ → List ℕ → List ℕ → List ℕ → State → List ℕ → List ℕ → Type 0
-Feeds s buffer w piece written next after v = (g : Reading) → Stands g s buffer w → Fed g piece written next after v
-
--- `finish`
-abbrev pub Finishes : State → List ℕ → List ℕ → List ℕ → Type 0
-Finishes s buffer w written = (g : Reading) → Stands g s buffer w → Finished g written
-
--- ---- what the program does
-
--- a chunk fed from a place on, until it is used up
-pub data Chunk : State → List ℕ → List ℕ → List ℕ → ℕ → List ℕ → State → List ℕ → List ℕ → Type 0 where
-  used : (s : State) (buffer w chunk : List ℕ) → Chunk s buffer w chunk (length chunk) [] s buffer w
-  fed : (s : State) (buffer w chunk : List ℕ) (from at : ℕ) (written : List ℕ) (next : State) (after v more : List ℕ) (last : State) (end u : List ℕ)
-      → from ≤ at → at ≤ length chunk → Feeds s buffer w (between from at chunk) written next after v → Chunk next after v chunk at more last end u
-      → Chunk s buffer w chunk from (written ++ more) last end u
-
--- the input's chunks from a state on, up to the end of the input, or up to a refused recipe, after which the rest is not looked at
-pub data Course : State → List ℕ → List ℕ → List (List ℕ) → List ℕ → Type 0 where
-  ended : (s : State) (buffer w written : List ℕ) → Finishes s buffer w written → Course s buffer w [] written
-  stops : (s : State) (buffer w : List ℕ) (chunks : List (List ℕ)) → s .stage ≡ Done → Course s buffer w chunks []
-  takes : (s : State) (buffer w chunk written : List ℕ) (next : State) (after v : List ℕ) (chunks : List (List ℕ)) (more : List ℕ)
-      → Chunk s buffer w chunk 0 written next after v → Course next after v chunks more → Course s buffer w (chunk ∷ chunks) (written ++ more)
-
--- the whole input
-pub joined : List (List ℕ) → List ℕ
-joined [] = []
-joined (c ∷ cs) = c ++ joined cs
 
 -- ---- pieces join
 
-pub fed-none : (s : State) (buffer w : List ℕ) → Feeds s buffer w [] [] s buffer w
-fed-none s buffer w g h = record { next = g; stands = h; owes = λ _. refl }
-
-pub fed-join : (s : State) (buffer w p x : List ℕ) (next : State) (after v q y : List ℕ) (last : State) (end u : List ℕ)
-    → Feeds s buffer w p x next after v → Feeds next after v q y last end u → Feeds s buffer w (p ++ q) (x ++ y) last end u
-fed-join s buffer w p x next after v q y last end u f k g h =
-    let a = f g h in
+fed-join : (p x : List ℕ) (next : State) (after v q y : List ℕ) (last : State) (end u : List ℕ) (g : Reading)
+    → Fed g p x next after v → Feeds next after v q y last end u → Fed g (p ++ q) (x ++ y) last end u
+fed-join p x next after v q y last end u g a k =
     let b = k (a .next) (a .stands) in
     record {
       next = b .next;
@@ -67,24 +29,24 @@ fed-join s buffer w p x next after v q y last end u f k g h =
           ∙ sym (append-assoc x y (owed (b .next) rest));
     }
 
-chunk-fed : (s : State) (buffer w chunk : List ℕ) (from : ℕ) (written : List ℕ) (last : State) (end u : List ℕ) → Chunk s buffer w chunk from written last end u
-    → (from ≤ length chunk) × Feeds s buffer w (between from (length chunk) chunk) written last end u
-chunk-fed s buffer w chunk from written last end u (used _ _ _ _) = (omega arith, rw (between-none chunk (length chunk)) (fed-none s buffer w))
-chunk-fed s buffer w chunk from written last end u (fed _ _ _ _ _ at x next after v more _ _ _ h m f k) =
-    let r = chunk-fed next after v chunk at more last end u k in
-    (omega arith, rw (between-join chunk from at (length chunk) h m) (fed-join s buffer w (between from at chunk) x next after v (between at (length chunk) chunk) more last end u f (r .1)))
+joined-more : (cs : List (List ℕ)) (c : List ℕ) → joined (cs ++ (c ∷ [])) ≡ joined cs ++ c
+unfolding joined
+joined-more [] c = append-nil c
+joined-more (b ∷ cs) c = ap (λ (z : List ℕ). b ++ z) (joined-more cs c) ∙ sym (append-assoc b (joined cs) c)
 
--- a chunk up to a place, and a piece more
-pub whole-none : (s : State) (buffer w chunk : List ℕ) → Whole s buffer w (between 0 0 chunk) s buffer w
-whole-none s buffer w chunk = record { written = []; feeds = rw (between-none chunk 0) (fed-none s buffer w) }
+-- ---- a course
 
-pub whole-more : (s : State) (buffer w chunk : List ℕ) (i j : ℕ) (next : State) (after v x : List ℕ) (last : State) (end u : List ℕ) → i ≤ j
-    → Whole s buffer w (between 0 i chunk) next after v → Feeds next after v (between i j chunk) x last end u → Whole s buffer w (between 0 j chunk) last end u
-whole-more s buffer w chunk i j next after v x last end u h a f =
-    record {
-      written = a .written ++ x;
-      feeds = rw (between-join chunk 0 i j (omega arith) h) (fed-join s buffer w (between 0 i chunk) (a .written) next after v (between i j chunk) x last end u (a .feeds) f);
-    }
+-- what a course has put out, and what it owes for whatever follows
+pub course-fed : (chunks : List (List ℕ)) (chunk : List ℕ) (at : ℕ) (out : List ℕ) (s : State) (buffer w : List ℕ) → Course chunks chunk at out s buffer w
+    → Fed (heading []) (joined chunks ++ between 0 at chunk) out s buffer w
+unfolding joined
+course-fed chunks chunk at out s buffer w (starts _ _ _ f) =
+    rw (between-none [] 0) (record { next = heading []; stands = f buffer w; owes = λ _. refl })
+course-fed chunks chunk at out s buffer w (reads cs c _ _ _ _ _ k) =
+    rw (between-none chunk 0, append-nil, joined-more cs c, ← between-whole c) (course-fed cs c (length c) out s buffer w k)
+course-fed chunks chunk at out s buffer w (feeds _ _ from x t b v _ o p _ _ _ k h m f) =
+    rw (between-join chunk 0 from at (omega arith) h, ← append-assoc)
+    (fed-join (joined chunks ++ between 0 from chunk) x t b v (between from at chunk) (take p o) s buffer w (heading []) (course-fed chunks chunk from x t b v k) f)
 
 -- ---- the whole
 
@@ -94,18 +56,48 @@ stopped-owes s buffer w (heading t) h e rest = never (cc (h .0))
 stopped-owes s buffer w (running l line) h e rest = never (cc (h .0))
 stopped-owes s buffer w stopped h e rest = refl
 
-course : (s : State) (buffer w : List ℕ) (chunks : List (List ℕ)) (written : List ℕ) → Course s buffer w chunks written
-    → (g : Reading) → Stands g s buffer w → owed g (joined chunks) ≡ written
-unfolding joined
-course s buffer w chunks written (ended _ _ _ _ f) g h = f g h
-course s buffer w chunks written (stops _ _ _ _ e) g h = stopped-owes s buffer w g h e (joined chunks)
-course s buffer w chunks written (takes _ _ _ chunk x next after v cs more c k) g h =
-    let a : Feeds s buffer w chunk x next after v = rw (between-whole chunk) at (chunk-fed s buffer w chunk 0 x next after v c .1) in
-    let b = a g h in
-    b .owes (joined cs) ∙ ap (λ (z : List ℕ). x ++ z) (course next after v cs more k (b .next) (b .stands))
+module _ (chunks : List (List ℕ)) (chunk out : List ℕ) (s : State) (buffer w : List ℕ) (k : Course chunks chunk (length chunk) out s buffer w) where
+  -- whatever follows, the output of the whole is what was handed out and what is still owed
+  owes : (rest : List ℕ) → runOutput ((joined chunks ++ chunk) ++ rest) ≡ out ++ owed (course-fed chunks chunk (length chunk) out s buffer w k .next) rest
+  unfolding owed runOutput
+  owes rest = ap (λ (z : List ℕ). runOutput ((joined chunks ++ z) ++ rest)) (sym (between-whole chunk)) ∙ course-fed chunks chunk (length chunk) out s buffer w k .owes rest
 
--- however the input is cut into chunks, what is written is the output of the whole
-pub any-chunks : (s : State) (buffer w : List ℕ) (chunks : List (List ℕ)) (written : List ℕ) → Starts s → Course s buffer w chunks written
-    → written ≡ runOutput (joined chunks)
-unfolding owed runOutput
-any-chunks s buffer w chunks written e k = sym (course s buffer w chunks written k (heading []) (e buffer w))
+  -- However the input is cut into chunks, what is handed out is the output of the whole.
+  pub any-chunks : (last : List ℕ) → Finishes s buffer w last → out ++ last ≡ runOutput (joined chunks ++ chunk)
+  any-chunks last f =
+      let a = course-fed chunks chunk (length chunk) out s buffer w k in
+      ap (λ (z : List ℕ). out ++ z) (sym (f (a .next) (a .stands))) ∙ sym (owes []) ∙ ap runOutput (append-nil (joined chunks ++ chunk))
+
+  -- After a refused recipe that is so already, however the input goes on.
+  pub any-rest : s .stage ≡ Done → (rest : List ℕ) → out ≡ runOutput ((joined chunks ++ chunk) ++ rest)
+  any-rest e rest =
+      let a = course-fed chunks chunk (length chunk) out s buffer w k in
+      sym (owes rest ∙ ap (λ (z : List ℕ). out ++ z) (stopped-owes s buffer w (a .next) (a .stands) e rest) ∙ append-nil out)
+
+-- ---- a program that follows a course
+
+pub followed-stands : (chunk : List ℕ) (at : ℕ) (s : State) (buffer w : List ℕ) → Followed chunk at s buffer w → Standing s buffer w
+followed-stands chunk at s buffer w f =
+    let a = course-fed (f .chunks) chunk at (f .out) s buffer w (f .course) in
+    record { reading = a .next; stands = a .stands }
+
+pub followed-start : (s : State) (buffer w : List ℕ) → Starts s → Followed [] 0 s buffer w
+followed-start s buffer w e = record { chunks = []; out = []; course = starts s buffer w e }
+
+pub followed-read : (chunk next : List ℕ) (at : ℕ) (s : State) (buffer w : List ℕ) → Followed chunk at s buffer w → at ≡ length chunk → Followed next 0 s buffer w
+followed-read chunk next at s buffer w f e =
+    record {
+      chunks = f .chunks ++ (chunk ∷ []);
+      out = f .out;
+      course = reads (f .chunks) chunk (f .out) s buffer w next (rw e at (f .course));
+    }
+
+pub followed-feed : (chunk : List ℕ) (from : ℕ) (s : State) (buffer w : List ℕ) (at : ℕ) (output : List ℕ) (put : ℕ) (next : State) (after v : List ℕ)
+    → Followed chunk from s buffer w → from ≤ at → at ≤ length chunk → Feeds s buffer w (between from at chunk) (take put output) next after v
+    → Followed chunk at next after v
+followed-feed chunk from s buffer w at output put next after v f h m k =
+    record {
+      chunks = f .chunks;
+      out = f .out ++ take put output;
+      course = feeds (f .chunks) chunk from (f .out) s buffer w at output put next after v (f .course) h m k;
+    }

@@ -1,6 +1,7 @@
 -- The laws of `programs`.
 pub mod Answers
 pub mod Pieces
+pub mod Untouched
 pub mod FrameLines
 pub mod Parts
 pub mod Laws

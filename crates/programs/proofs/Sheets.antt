@@ -1,23 +1,25 @@
 -- What a user of the sheet program would state of its output: the lines of a sheet that passes, a refusal's one line, and how much of the
 -- input decides. The bytes of the longest sheet are lent, so refusal 40 is never met. Assumes nothing.
-use mathlib.Core.Path.{_≡_, refl, _∙_, sym}
+use mathlib.Core.Path.{_≡_, refl, ap, _∙_, sym}
 use mathlib.Core.Bool.{Bool, true, false, not, _||_}
 use mathlib.Core.List.{List, append-nil}
-use Prim.Native.Nat.{ℕ, _%_, _<_}
+use Prim.Native.Nat.{ℕ, _*_, _%_, _≤_, _<_}
 use native.Mathlib.Omega.{arith}
 use lib.Dec.{eqb, ltb}
-use lib.ListN.{length, take}
-use lib.Seq.{length-take-le, drop-nil}
+use lib.ListN.{length, take, drop}
+use lib.Seq.{length-take-le, drop-nil, drop-at}
 use borrow.Author.Tests.{eq-eqb, ne-eqb, lt-ltb}
-use Rattle.recipe.specs.Text.{short, lineLength, longest, readText}
+use Rattle.recipe.specs.Text.{Text, steps, short, lineLength, longest, readText}
 use Rattle.recipe.specs.Text as text
-use Rattle.recipe.proofs.Laws.{refusal-positive}
+use Rattle.recipe.proofs.Laws.{read-formed, refusal-positive}
 use Rattle.semantics.specs.declared.SheetAnswer.{SheetAnswer}
 use Rattle.semantics.specs.Range.{Range}
-use Rattle.semantics.specs.Sheet.{passed, refused, longestSheet, sheetOf, linesFrom}
-use Rattle.semantics.proofs.Calls.{sheet-refused}
+use Rattle.semantics.specs.Sheet.{Sheet, passed, refused, sheetLine, longestSheet, sheetOf, answerOf, linesFrom, bytesOf}
+use Rattle.semantics.proofs.Calls.{sheet-refused, sheet-read, sheet-reached}
+use Rattle.semantics.proofs.SheetLines.{length-lines}
 use Rattle.programs.specs.Output.{refusalLine, lookedAt}
 use Rattle.programs.specs.Sheet.{onSheet, sheetOutput}
+use Rattle.programs.specs.Stage.{Untouched}
 
 -- ---- the output
 
@@ -36,6 +38,32 @@ module _ (t : List ℕ) where
   pub passed-sheet : (l : List Range) → sheetOf t longestSheet ≡ passed l → sheetOutput t ≡ linesFrom 0 l
   unfolding sheetOutput onSheet
   passed-sheet l e = rw (e, drop-nil, append-nil)
+
+-- ---- room for the longest sheet
+
+by-text : (t : List ℕ) (room : ℕ) → longestSheet ≤ room → (x : Text) → readText short t ≡ x → sheetOf t room ≡ sheetOf t longestSheet
+by-text t room h (steps l) e =
+    let f = read-formed short t l e .few in
+    sheet-read t room l e ∙ sheet-reached l room (omega arith) ∙ sym (sheet-read t longestSheet l e ∙ sheet-reached l longestSheet (omega arith))
+by-text t room h (text.refused number place) e = sheet-refused t room number place e ∙ sym (sheet-refused t longestSheet number place e)
+
+-- More room than that changes nothing.
+pub enough-room : (t : List ℕ) (room : ℕ) → longestSheet ≤ room → sheetOf t room ≡ sheetOf t longestSheet
+enough-room t room h = by-text t room h (readText short t) refl
+
+-- ---- the memory that the sheet call was lent
+
+-- the bytes after a sheet's lines stay
+pub rest-stays : (x : Sheet) (lent : List ℕ) → Untouched (answerOf x .steps * sheetLine) lent (bytesOf x lent)
+rest-stays (passed l) lent =
+    let e : sheetLine * length l ≡ length l * sheetLine = omega arith in
+    drop-at (linesFrom 0 l) (drop (sheetLine * length l) lent) (length l * sheetLine) (length-lines 0 l) ∙ ap (λ (k : ℕ). drop k lent) e
+rest-stays (refused number place) lent = refl
+
+-- a refused sheet changes none
+pub all-stays : (x : Sheet) (lent : List ℕ) → (answerOf x .refusal ≡ 0 → ⊥) → bytesOf x lent ≡ lent
+all-stays (passed l) lent h = absurd (h refl)
+all-stays (refused number place) lent h = refl
 
 -- ---- by the sheet call's answer
 

@@ -68,9 +68,13 @@ pub record Standing (s : State) (buffer w : List ℕ) : Type 0 where
 abbrev pub between : ℕ → ℕ → List ℕ → List ℕ
 between from to s = take (to - from) (drop from s)
 
--- the first r bytes of the buffer are the line
-abbrev pub Put : List ℕ → ℕ → List ℕ → Type 0
-Put line r out = (r ≤ 19) × (take r out ≡ line)
+-- what stood from a place on stands there still
+abbrev pub Untouched : ℕ → List ℕ → List ℕ → Type 0
+Untouched at before after = drop at after ≡ drop at before
+
+-- the line is written over the first r bytes
+abbrev pub Put : List ℕ → ℕ → List ℕ → List ℕ → Type 0
+Put line r before after = (r ≤ 19) × (take r after ≡ line) × Untouched r before after
 
 -- where the line that starts at a byte ends: at the first line feed, or at the chunk's end
 pub record LineEnd (s : List ℕ) (from to : ℕ) : Type 0 where
@@ -109,11 +113,6 @@ pub record Fed (g : Reading) (piece written : List ℕ) (s : State) (buffer w : 
   pub next : Reading
   pub stands : Stands next s buffer w
   pub owes : (rest : List ℕ) → owed g (piece ++ rest) ≡ written ++ owed next rest
-
--- all of a chunk read, and what was due on it written
-pub record Whole (s : State) (buffer w chunk : List ℕ) (next : State) (after v : List ℕ) : Type 0 where
-  pub written : List ℕ
-  pub feeds : (g : Reading) → Stands g s buffer w → Fed g chunk written next after v
 
 -- what is written where the input ends
 abbrev pub Finished : Reading → List ℕ → Type 0

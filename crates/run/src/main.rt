@@ -1,84 +1,80 @@
 // Runs a recipe on the frames of standard input, and writes the answer to each on a line (document 01, "Sheet and run on paper").
 //
 // The input is a recipe, an empty line, then one frame per line. The answer to a frame is its run's kind and word, or a refusal line, which
-// does not stop the next. A refused recipe gives one line and ends the program, as do the end of the input and an output that takes no more.
-ghost use mathlib.Core.Path.{_≡_};
-ghost use mathlib.Core.Bool.{true};
-ghost use Prim.Native.Nat.{_*_, _≤_};
-ghost use lib.ListN.{length};
-ghost use Rattle.recipe.specs.Text.{mostSteps};
-ghost use Rattle.programs.specs.Output.{lookedAt};
-ghost use Rattle.programs.specs.Stage.{Standing, Whole};
-use programs::State;
+// does not stop the next. A refused recipe gives one line and ends the program, as does the end of the input. So do a read and a write that fail,
+// each with one line on standard error.
+//
+// What `main` does between its system calls is a `Course` (`programs/specs/Course.antt`): it is in the loop's invariant, so that each chunk is
+// fed from its first byte to its last before the next is read, and the bytes handed to `write` are those that `feed` put out. By `any-chunks`,
+// all of them together are the output that the rules ask for.
+use stream::feed;
+use stream::finish;
+use stream::is_done;
 
 // How many bytes are read at a time, and how many of the output are gathered before they are written.
-const CHUNK: usize = 16384;
+const CHUNK: usize = 8192;
 
-// The state after a chunk, and whether the output took all that was due on it.
-struct Turn {
-    state: State,
-    written: bool,
+// Says why standard input could not be read.
+fn tell_read() {
+    os::fail(b"run: answers are incomplete: cannot read standard input");
 }
 
-// Feeds a chunk, and writes what is due on it; stops where the output takes no more.
-fn answer_chunk(
-    state: State,
-    buffer: &mut [u8],
-    steps: &mut [u64],
-    chunk: &[u8],
-    output: &mut [u8],
-) -> Turn
-    requires { ⌜ Standing state (now buffer) (now steps) × (length (now buffer) ≡ lookedAt) × (length (now steps) ≡ 3 * mostSteps) × (19 ≤ length (now output)) ⌝ }
-    ensures { λ r. ⌜ Standing (r .state) (now (buffer .exit)) (now (steps .exit)) × (r .written ≡ true →
-        Whole state (now (buffer .entry)) (now (steps .entry)) (now (chunk .entry)) (r .state) (now (buffer .exit)) (now (steps .exit))) ⌝ }
-{
-    let mut state = state;
-    let mut i: usize = 0;
-    while i < chunk.len() {
-        let progress = stream::feed(state, buffer, steps, chunk, i, output);
-        let next = progress.state;
-        let put = progress.put;
-        state = next;
-        i = progress.at;
-        if !io::write_all(libc::STDOUT_FILENO, &output[..put]) {
-            return Turn {
-                state,
-                written: false,
-            };
-        }
-    }
-    Turn {
-        state,
-        written: true,
-    }
+// Says why standard output could not be written.
+fn tell_written() {
+    os::fail(b"run: answers are incomplete: cannot write standard output");
 }
 
 // A proved loop ends, and nothing says that the input does: the turns are counted down from a number that no run uses up. None are left
 // after the end of the input, and after a refused recipe.
 fn main() {
+    if stdio::refuses_arguments(
+        b"usage: run <input >answers (a recipe, an empty line, then one frame per line; no argument is taken)\n",
+    ) {
+        return;
+    }
     let mut input = [0u8; CHUNK];
     let mut buffer = [0u8; programs::LOOKED_AT];
     let mut steps = [0u64; recipe::MOST_WORDS];
     let mut output = [0u8; CHUNK];
     let mut state = stream::start();
+    // the bytes of the present chunk, and the place up to which it is used
+    let mut n: usize = 0;
+    let mut at: usize = 0;
     let mut turns = u64::MAX;
     while turns > 0 {
         turns -= 1;
-        let got = libc::read(libc::STDIN_FILENO, &mut input);
-        let n = io::count(got, &input);
-        let turn = answer_chunk(state, &mut buffer, &mut steps, &input[..n], &mut output);
-        let next = turn.state;
-        state = next;
-        if !turn.written {
-            return;
-        }
-        if n == 0 {
-            turns = 0;
-        }
-        if stream::is_done(state) {
-            turns = 0;
+        if at < n {
+            let progress = feed(state, &mut buffer, &mut steps, &input[..n], at, &mut output);
+            let next = progress.state;
+            let put = progress.put;
+            state = next;
+            at = progress.at;
+            if !stdio::write(&output[..put]) {
+                tell_written();
+                return;
+            }
+            if is_done(state) {
+                turns = 0;
+            }
+        } else {
+            let got = stdio::read(&mut input);
+            if got.failed {
+                tell_read();
+                return;
+            }
+            n = got.count;
+            at = 0;
+            if n == 0 {
+                turns = 0;
+            }
         }
     }
-    let n = stream::finish(state, &buffer, &mut steps, &mut output);
-    io::write_all(libc::STDOUT_FILENO, &output[..n]);
+    let put = finish(state, &buffer, &mut steps, &mut output);
+    if !stdio::write(&output[..put]) {
+        tell_written();
+        return;
+    }
+    if !stdio::close() {
+        tell_written();
+    }
 }

@@ -1,14 +1,33 @@
 // Writes the sheet of the recipe on standard input, or the refusal line of a recipe that is turned down (document 01, "Sheet and run on
-// paper").
+// paper"). Where standard input cannot be read, or standard output not be written, it says so on standard error.
 //
 // No more than 4,993 bytes are read: a text that long is refused by its length, however it goes on.
 use programs::LOOKED_AT;
 use semantics::LONGEST_SHEET;
 
+// Says why standard output could not be written.
+fn tell_written() {
+    os::fail(b"sheet: the sheet is incomplete: cannot write standard output");
+}
+
 fn main() {
+    if stdio::refuses_arguments(b"usage: sheet <recipe >sheet (no argument is taken)\n") {
+        return;
+    }
     let mut text = [0u8; LOOKED_AT];
     let mut output = [0u8; LONGEST_SHEET];
-    let n = io::read_full(libc::STDIN_FILENO, &mut text);
+    let got = stdio::read_full(&mut text);
+    if got.failed {
+        os::fail(b"sheet: no sheet is written: cannot read standard input");
+        return;
+    }
+    let n = got.count;
     let size = stream::write_sheet(&text[..n], &mut output);
-    io::write_all(libc::STDOUT_FILENO, &output[..size]);
+    if !stdio::write(&output[..size]) {
+        tell_written();
+        return;
+    }
+    if !stdio::close() {
+        tell_written();
+    }
 }

@@ -6,15 +6,17 @@ use mathlib.Core.List.{List, [], _∷_, _++_}
 use mathlib.Core.Logic.{⊎-elim}
 use Prim.Native.Nat.{ℕ, _+_, _-_, _≤_, _<_}
 use native.Mathlib.Omega.{arith}
-use lib.ListN.{length, getD, take}
+use lib.ListN.{length, getD, take, drop}
 use lib.Seq.{take-append-add, take-append-le, length-take-le}
 use Rattle.recipe.specs.declared.Step.{Step}
 use Rattle.recipe.specs.Answer.{Holds}
+use Rattle.hex.proofs.Parts.{put as part-put}
 use Rattle.recipe.proofs.Counts.{never}
 use Rattle.semantics.proofs.Lists.{lt-or-ge}
 use Rattle.programs.specs.Output.{frameLine}
-use Rattle.programs.specs.Stage.{LineEnd, Paid, Answered, between}
+use Rattle.programs.specs.Stage.{LineEnd, Paid, Answered, between, Untouched}
 use Rattle.programs.proofs.Pieces.{between-none, between-join}
+use Rattle.programs.proofs.Untouched.{untouched-join, untouched-part}
 use Rattle.programs.proofs.FrameLines.{paid-none, paid-join, paid-line, plain-piece, ended-piece}
 
 -- ---- where a line ends
@@ -42,6 +44,7 @@ pub record Going (w s : List ℕ) (from : ℕ) (out₀ out : List ℕ) (i put : 
   pub room : put ≤ length out₀
   pub idle : i ≤ from → put ≡ 0
   pub paid : (l : List Step) → Holds l w → Paid l [] (between from i s) (take put out) []
+  pub rest : Untouched put out₀ out
 
 pub going-none : (w s : List ℕ) (from : ℕ) (out : List ℕ) → from ≤ length s → Going w s from out out from 0
 going-none w s from out h =
@@ -52,15 +55,16 @@ going-none w s from out h =
       room = omega arith;
       idle = λ _. refl;
       paid = λ l g. rw (between-none s from) (paid-none l []);
+      rest = refl;
     }
 
 module _ (w s : List ℕ) (from : ℕ) (out₀ out : List ℕ) (i put : ℕ) (g : Going w s from out₀ out i put) where
   -- a turn: the line up to e, of whose answer p bytes are put into the rest of the output
-  pub going-more : (e p : ℕ) (ys z : List ℕ) → LineEnd s i e → e < length s → p ≤ 19 → 19 ≤ length out - put
-      → length ys ≡ length out - put → length (take put out ++ (ys ++ z)) ≡ length out
+  pub going-more : (e p : ℕ) (ys : List ℕ) → LineEnd s i e → e < length s → p ≤ 19 → 19 ≤ length out - put
+      → length ys ≡ length out - put → Untouched p (take (length out - put) (drop put out)) ys → length (part-put put (length out - put) out ys) ≡ length out
       → ((l : List Step) → Holds l w → take p ys ≡ frameLine l (between i e s))
-      → Going w s from out₀ (take put out ++ (ys ++ z)) (e + 1) (put + p)
-  going-more e p ys z d h k m x y v =
+      → Going w s from out₀ (part-put put (length out - put) out ys) (e + 1) (put + p)
+  going-more e p ys d h k m x u y v =
       let q : put ≤ length out = omega (arith, g .room, g .out-length) in
       record {
         out-length = y ∙ g .out-length;
@@ -69,8 +73,9 @@ module _ (w s : List ℕ) (from : ℕ) (out₀ out : List ℕ) (i put : ℕ) (g 
         room = omega (arith, g .room, g .out-length);
         idle = λ o. absurd (omega (arith, g .after, d .after));
         paid = λ l f.
-            rw (between-join s from i (e + 1) (g .after) (omega (arith, d .after)), put-some out ys z put p q (omega arith), ended-piece s i e d h)
+            rw (between-join s from i (e + 1) (g .after) (omega (arith, d .after)), put-some out ys (drop (length out - put) (drop put out)) put p q (omega arith), ended-piece s i e d h)
             (paid-join l [] (between from i s) (take put out) [] (between i e s ++ (10 ∷ [])) (take p ys) [] (g .paid l f) (paid-line l [] (between i e s) (take p ys) (plain-piece s i e d) (v l f)));
+        rest = untouched-join out₀ out (part-put put (length out - put) out ys) put (put + p) (put + p) (omega arith) (omega arith) (g .rest) (untouched-part out ys put (length out - put) p (omega arith) (omega arith) x u);
       }
 
   -- the rest has no line feed

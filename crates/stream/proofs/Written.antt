@@ -11,6 +11,8 @@ use Rattle.hex.proofs.Digits.{length-digits}
 use Rattle.hex.proofs.Parts.{put, set-next, put-next, length-put}
 use Rattle.semantics.specs.declared.RunAnswer.{RunAnswer}
 use Rattle.programs.specs.Output.{refusalLine, answerLine}
+use Rattle.programs.specs.Stage.{Untouched}
+use Rattle.programs.proofs.Untouched.{untouched-join, untouched-set, untouched-front, untouched-put}
 
 -- ---- a refusal line
 
@@ -23,6 +25,17 @@ module _ (xs a b d : List ℕ) (h : 19 ≤ length xs) (p : length a ≡ 2) (q : 
 
   pub refusal-same : length (set (put 4 2 (put 2 2 (a ++ drop 2 xs) b) d) 6 10) ≡ length xs
   refusal-same = simp length-set refusal-length
+
+  pub refusal-rest : Untouched 7 xs (set (put 4 2 (put 2 2 (a ++ drop 2 xs) b) d) 6 10)
+  refusal-rest =
+      let l1 = a ++ drop 2 xs in
+      let l2 = put 2 2 l1 b in
+      let l3 = put 4 2 l2 d in
+      let n1 : length l1 ≡ length xs = length-append a (drop 2 xs) ∙ simp length-drop (omega arith) in
+      let n2 : length l2 ≡ length xs = length-put l1 b 2 2 (omega arith) q ∙ n1 in
+      let u2 : Untouched 4 xs l2 = untouched-join xs l1 l2 2 4 4 (omega arith) (omega arith) (untouched-front xs a 2 p) (untouched-put l1 b 2 2 (omega arith) q) in
+      let u3 : Untouched 6 xs l3 = untouched-join xs l2 l3 4 6 6 (omega arith) (omega arith) u2 (untouched-put l2 d 4 2 (omega arith) r) in
+      untouched-join xs l3 (set l3 6 10) 6 7 7 (omega arith) (omega arith) u3 (untouched-set l3 6 10 7 (omega arith))
 
   refusal-fields : take 7 (set (put 4 2 (put 2 2 (a ++ drop 2 xs) b) d) 6 10) ≡ a ++ (b ++ (d ++ (10 ∷ [])))
   refusal-fields =
@@ -55,6 +68,14 @@ module _ (xs a b : List ℕ) (h : 19 ≤ length xs) (p : length a ≡ 2) (q : le
 
   pub answer-same : length (set (put 2 16 (a ++ drop 2 xs) b) 18 10) ≡ length xs
   answer-same = simp length-set answer-length
+
+  pub answer-rest : Untouched 19 xs (set (put 2 16 (a ++ drop 2 xs) b) 18 10)
+  answer-rest =
+      let l1 = a ++ drop 2 xs in
+      let l2 = put 2 16 l1 b in
+      let n1 : length l1 ≡ length xs = length-append a (drop 2 xs) ∙ simp length-drop (omega arith) in
+      let u2 : Untouched 18 xs l2 = untouched-join xs l1 l2 2 18 18 (omega arith) (omega arith) (untouched-front xs a 2 p) (untouched-put l1 b 2 16 (omega arith) q) in
+      untouched-join xs l2 (set l2 18 10) 18 19 19 (omega arith) (omega arith) u2 (untouched-set l2 18 10 19 (omega arith))
 
   answer-fields : take 19 (set (put 2 16 (a ++ drop 2 xs) b) 18 10) ≡ a ++ (b ++ (10 ∷ []))
   answer-fields =

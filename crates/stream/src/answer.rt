@@ -6,7 +6,7 @@ ghost use lib.ListN.{length, take};
 ghost use Rattle.recipe.specs.declared.Step.{Step};
 ghost use Rattle.recipe.specs.Answer.{Holds};
 ghost use Rattle.programs.specs.Output.{refusalLine, answerLine, frameLine};
-ghost use Rattle.programs.specs.Stage.{Put};
+ghost use Rattle.programs.specs.Stage.{Untouched, Put};
 use recipe::MOST_STEPS;
 use running::run_recipe;
 use semantics::RunAnswer;
@@ -17,7 +17,7 @@ pub(crate) const LINE: usize = 19;
 // Writes a refusal line at the start of out, and answers its length.
 pub(crate) fn refusal_line(number: u64, place: u64, out: &mut [u8]) -> usize
     requires { ⌜ 19 ≤ length (now out) ⌝ }
-    ensures { λ r. ⌜ Put (refusalLine number place) r (now (out .exit)) ⌝ }
+    ensures { λ r. ⌜ Put (refusalLine number place) r (now (out .entry)) (now (out .exit)) ⌝ }
 {
     hex::write(0xff, &mut out[..2]);
     hex::write(number, &mut out[2..4]);
@@ -29,7 +29,7 @@ pub(crate) fn refusal_line(number: u64, place: u64, out: &mut [u8]) -> usize
 // The same of a run's answer: kind and word, or a refusal line.
 fn answer_line(a: RunAnswer, out: &mut [u8]) -> usize
     requires { ⌜ 19 ≤ length (now out) ⌝ }
-    ensures { λ r. ⌜ Put (answerLine a) r (now (out .exit)) ⌝ }
+    ensures { λ r. ⌜ Put (answerLine a) r (now (out .entry)) (now (out .exit)) ⌝ }
 {
     if a.refusal != 0 {
         return refusal_line(a.refusal, a.place, out);
@@ -44,7 +44,8 @@ fn answer_line(a: RunAnswer, out: &mut [u8]) -> usize
 pub(crate) fn frame_line(steps: &[u64], line: &[u8], out: &mut [u8]) -> usize
     requires { ⌜ 19 ≤ length (now out) ⌝ }
     ensures { λ r. ⌜ (r ≤ 19) × (
-        (l : List Step) → Holds l (now (steps .entry)) → take r (now (out .exit)) ≡ frameLine l (now (line .entry))) ⌝ }
+        (l : List Step) → Holds l (now (steps .entry)) → take r (now (out .exit)) ≡ frameLine l (now (line .entry)))
+        × Untouched r (now (out .entry)) (now (out .exit)) ⌝ }
 {
     if line.len() > 256 {
         return refusal_line(30, 0, out);

@@ -7,7 +7,7 @@ ghost use lib.ListN.{length, take};
 ghost use Rattle.recipe.specs.declared.Step.{Step};
 ghost use Rattle.recipe.specs.Answer.{Holds};
 ghost use Rattle.programs.specs.Output.{frameLine};
-ghost use Rattle.programs.specs.Stage.{NoFeed, Kept, LineEnd, Answered, Handled, between};
+ghost use Rattle.programs.specs.Stage.{NoFeed, Kept, LineEnd, Answered, Handled, between, Untouched};
 use super::answer::LINE;
 use super::answer::frame_line;
 use super::answer::refusal_line;
@@ -38,7 +38,8 @@ fn line_end(s: &[u8], from: usize) -> usize
 // Adds a part to the n bytes kept of a line, and answers how many are kept then; 257 where the line is longer than the longest frame.
 fn keep(buffer: &mut [u8], n: usize, part: &[u8]) -> usize
     requires { ⌜ 256 ≤ length (now buffer) ⌝ }
-    ensures { λ r. ⌜ ((line : List ℕ) → Kept line n (now (buffer .entry)) → Kept (line ++ now (part .entry)) r (now (buffer .exit))) ⌝ }
+    ensures { λ r. ⌜ ((line : List ℕ) → Kept line n (now (buffer .entry)) → Kept (line ++ now (part .entry)) r (now (buffer .exit)))
+        × Untouched 256 (now (buffer .entry)) (now (buffer .exit)) ⌝ }
 {
     let mut k = n;
     let mut i: usize = 0;
@@ -57,7 +58,8 @@ fn keep(buffer: &mut [u8], n: usize, part: &[u8]) -> usize
 pub(crate) fn kept_line(steps: &[u64], buffer: &[u8], n: usize, out: &mut [u8]) -> usize
     requires { ⌜ (256 ≤ length (now buffer)) × (19 ≤ length (now out)) ⌝ }
     ensures { λ r. ⌜ (r ≤ 19) × (
-        (l : List Step) (line : List ℕ) → Holds l (now (steps .entry)) → Kept line n (now (buffer .entry)) → take r (now (out .exit)) ≡ frameLine l line) ⌝ }
+        (l : List Step) (line : List ℕ) → Holds l (now (steps .entry)) → Kept line n (now (buffer .entry)) → take r (now (out .exit)) ≡ frameLine l line)
+        × Untouched r (now (out .entry)) (now (out .exit)) ⌝ }
 {
     if n > 256 {
         return refusal_line(30, 0, out);
@@ -68,7 +70,8 @@ pub(crate) fn kept_line(steps: &[u64], buffer: &[u8], n: usize, out: &mut [u8]) 
 // Answers the lines of s from a place on, until no line feed is left or out has too little room for another answer.
 fn answer_lines(steps: &[u64], s: &[u8], from: usize, out: &mut [u8]) -> Lines
     requires { ⌜ (from ≤ length (now s)) × (19 ≤ length (now out)) ⌝ }
-    ensures { λ r. ⌜ (r .put ≤ length (now (out .entry))) × Answered (now (steps .entry)) (now (s .entry)) from r (now (out .exit)) ⌝ }
+    ensures { λ r. ⌜ (r .put ≤ length (now (out .entry))) × Answered (now (steps .entry)) (now (s .entry)) from r (now (out .exit))
+        × Untouched (r .put) (now (out .entry)) (now (out .exit)) ⌝ }
 {
     let mut i = from;
     let mut put: usize = 0;
@@ -103,7 +106,8 @@ fn take_rest(
     requires { ⌜ (256 ≤ length (now buffer)) × (from < length (now chunk)) × (19 ≤ length (now out)) ⌝ }
     ensures { λ r. ⌜ (from < r .at) × (r .at ≤ length (now (chunk .entry))) × (r .put ≤ length (now (out .entry))) × (
         (l : List Step) (line : List ℕ) → Holds l (now (steps .entry)) → Kept line count (now (buffer .entry)) → NoFeed line →
-        Handled l line (between from (r .at) (now (chunk .entry))) (take (r .put) (now (out .exit))) (r .count) (now (buffer .exit))) ⌝ }
+        Handled l line (between from (r .at) (now (chunk .entry))) (take (r .put) (now (out .exit))) (r .count) (now (buffer .exit)))
+        × Untouched (r .put) (now (out .entry)) (now (out .exit)) × Untouched 256 (now (buffer .entry)) (now (buffer .exit)) ⌝ }
 {
     let end = line_end(chunk, from);
     let kept = keep(buffer, count, &chunk[from..end]);
@@ -135,7 +139,8 @@ pub(crate) fn take_lines(
     requires { ⌜ (256 ≤ length (now buffer)) × (from < length (now chunk)) × (19 ≤ length (now out)) ⌝ }
     ensures { λ r. ⌜ (from < r .at) × (r .at ≤ length (now (chunk .entry))) × (r .put ≤ length (now (out .entry))) × (
         (l : List Step) (line : List ℕ) → Holds l (now (steps .entry)) → Kept line count (now (buffer .entry)) → NoFeed line →
-        Handled l line (between from (r .at) (now (chunk .entry))) (take (r .put) (now (out .exit))) (r .count) (now (buffer .exit))) ⌝ }
+        Handled l line (between from (r .at) (now (chunk .entry))) (take (r .put) (now (out .exit))) (r .count) (now (buffer .exit)))
+        × Untouched (r .put) (now (out .entry)) (now (out .exit)) × Untouched 256 (now (buffer .entry)) (now (buffer .exit)) ⌝ }
 {
     if count > 0 {
         return take_rest(steps, buffer, count, chunk, from, out);

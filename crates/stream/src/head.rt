@@ -4,7 +4,7 @@ ghost use mathlib.Core.List.{List, _++_};
 ghost use Prim.Native.Nat.{ℕ, _≤_, _<_};
 ghost use lib.ListN.{length, take};
 ghost use Rattle.programs.specs.Output.{lookedAt, partAfter};
-ghost use Rattle.programs.specs.Stage.{between, parts};
+ghost use Rattle.programs.specs.Stage.{between, parts, Untouched};
 use programs::End;
 use programs::LOOKED_AT;
 
@@ -17,9 +17,10 @@ pub struct Head {
 
 // Adds the chunk's bytes to the count bytes of the recipe that stand in the buffer, up to its end.
 pub(crate) fn take_recipe(buffer: &mut [u8], count: usize, chunk: &[u8], from: usize) -> Head
-    requires { ⌜ (length (now buffer) ≡ lookedAt) × (count ≤ lookedAt) × (from < length (now chunk)) ⌝ }
+    requires { ⌜ (lookedAt ≤ length (now buffer)) × (count ≤ lookedAt) × (from < length (now chunk)) ⌝ }
     ensures { λ r. ⌜ (from < r .at) × (r .at ≤ length (now (chunk .entry))) × (r .count ≤ lookedAt) × ((s : List ℕ) →
-        partAfter (take count (now (buffer .entry))) (between from (r .at) (now (chunk .entry)) ++ s) ≡ parts (r .end) (take (r .count) (now (buffer .exit))) s) ⌝ }
+        partAfter (take count (now (buffer .entry))) (between from (r .at) (now (chunk .entry)) ++ s) ≡ parts (r .end) (take (r .count) (now (buffer .exit))) s)
+        × Untouched (r .count) (now (buffer .entry)) (now (buffer .exit)) ⌝ }
 {
     let mut n = count;
     let mut last = if n > 0 { buffer[n - 1] } else { b'\n' };

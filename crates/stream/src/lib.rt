@@ -11,7 +11,7 @@ ghost use Rattle.recipe.specs.declared.Step.{Step};
 ghost use Rattle.recipe.specs.Text.{short, mostSteps, readText};
 ghost use Rattle.recipe.specs.Answer.{Says, Holds};
 ghost use Rattle.programs.specs.Output.{lookedAt, onRecipe};
-ghost use Rattle.programs.specs.Stage.{Reading, heading, running, isDone, NoFeed, Kept, Stands, Standing, Fed, Finished, between};
+ghost use Rattle.programs.specs.Stage.{Reading, heading, running, isDone, NoFeed, Kept, Stands, Standing, Fed, Finished, between, Untouched};
 use answer::refusal_line;
 use frames::kept_line;
 use frames::take_lines;
@@ -44,7 +44,8 @@ struct Opened {
 fn read_recipe(buffer: &[u8], n: usize, steps: &mut [u64], out: &mut [u8]) -> Opened
     requires { ⌜ (n ≤ length (now buffer)) × (length (now steps) ≡ 3 * mostSteps) × (19 ≤ length (now out)) ⌝ }
     ensures { λ r. ⌜ (r .put ≤ 19) × Says (readText short (take n (now (buffer .entry)))) (r .reading) (now (steps .exit))
-        × (take (r .put) (now (out .exit)) ≡ onRecipe (readText short (take n (now (buffer .entry)))) (λ l. [])) ⌝ }
+        × (take (r .put) (now (out .exit)) ≡ onRecipe (readText short (take n (now (buffer .entry)))) (λ l. []))
+        × Untouched (r .put) (now (out .entry)) (now (out .exit)) ⌝ }
 {
     let reading = reader::read(&buffer[..n], steps);
     if reading.refusal != 0 {
@@ -63,9 +64,10 @@ fn feed_recipe(
     from: usize,
     out: &mut [u8],
 ) -> Progress
-    requires { ⌜ (length (now buffer) ≡ lookedAt) × (count ≤ lookedAt) × (length (now steps) ≡ 3 * mostSteps) × (from < length (now chunk)) × (19 ≤ length (now out)) ⌝ }
+    requires { ⌜ (lookedAt ≤ length (now buffer)) × (count ≤ lookedAt) × (length (now steps) ≡ 3 * mostSteps) × (from < length (now chunk)) × (19 ≤ length (now out)) ⌝ }
     ensures { λ r. ⌜ (from < r .at) × (r .at ≤ length (now (chunk .entry))) × (r .put ≤ 19) × Fed (heading (take count (now (buffer .entry))))
-        (between from (r .at) (now (chunk .entry))) (take (r .put) (now (out .exit))) (r .state) (now (buffer .exit)) (now (steps .exit)) ⌝ }
+        (between from (r .at) (now (chunk .entry))) (take (r .put) (now (out .exit))) (r .state) (now (buffer .exit)) (now (steps .exit))
+        × Untouched (r .put) (now (out .entry)) (now (out .exit)) × Untouched lookedAt (now (buffer .entry)) (now (buffer .exit)) ⌝ }
 {
     let head = take_recipe(buffer, count, chunk, from);
     let n = head.count;
@@ -133,7 +135,8 @@ fn feed_frames(
     requires { ⌜ (256 ≤ length (now buffer)) × (3 * state .steps ≤ length (now steps)) × (from < length (now chunk)) × (19 ≤ length (now out)) ⌝ }
     ensures { λ r. ⌜ (from < r .at) × (r .at ≤ length (now (chunk .entry))) × (r .put ≤ length (now (out .entry))) × (
         (l : List Step) (line : List ℕ) → Holds l (take (3 * state .steps) (now (steps .entry))) → Kept line (state .count) (now (buffer .entry)) → NoFeed line →
-        Fed (running l line) (between from (r .at) (now (chunk .entry))) (take (r .put) (now (out .exit))) (r .state) (now (buffer .exit)) (now (steps .entry))) ⌝ }
+        Fed (running l line) (between from (r .at) (now (chunk .entry))) (take (r .put) (now (out .exit))) (r .state) (now (buffer .exit)) (now (steps .entry)))
+        × Untouched (r .put) (now (out .entry)) (now (out .exit)) × Untouched 256 (now (buffer .entry)) (now (buffer .exit)) ⌝ }
 {
     let end = 3 * state.steps;
     let turn = take_lines(&steps[..end], buffer, state.count, chunk, from, out);
@@ -181,10 +184,11 @@ pub fn feed(
     from: usize,
     out: &mut [u8],
 ) -> Progress
-    requires { ⌜ Standing state (now buffer) (now steps) × (length (now buffer) ≡ lookedAt) × (length (now steps) ≡ 3 * mostSteps) × (from < length (now chunk)) × (19 ≤ length (now out)) ⌝ }
+    requires { ⌜ Standing state (now buffer) (now steps) × (lookedAt ≤ length (now buffer)) × (length (now steps) ≡ 3 * mostSteps) × (from < length (now chunk)) × (19 ≤ length (now out)) ⌝ }
     ensures { λ r. ⌜ (from < r .at) × (r .at ≤ length (now (chunk .entry))) × (r .put ≤ length (now (out .entry))) × (
         (g : Reading) → Stands g state (now (buffer .entry)) (now (steps .entry)) →
-        Fed g (between from (r .at) (now (chunk .entry))) (take (r .put) (now (out .exit))) (r .state) (now (buffer .exit)) (now (steps .exit))) ⌝ }
+        Fed g (between from (r .at) (now (chunk .entry))) (take (r .put) (now (out .exit))) (r .state) (now (buffer .exit)) (now (steps .exit)))
+        × Untouched (r .put) (now (out .entry)) (now (out .exit)) × Untouched lookedAt (now (buffer .entry)) (now (buffer .exit)) ⌝ }
 {
     let stage = state.stage;
     match stage {
@@ -200,9 +204,10 @@ pub fn feed(
 
 // Writes what is due where the input ends, and answers how many bytes that is.
 pub fn finish(state: State, buffer: &[u8], steps: &mut [u64], out: &mut [u8]) -> usize
-    requires { ⌜ Standing state (now buffer) (now steps) × (length (now buffer) ≡ lookedAt) × (length (now steps) ≡ 3 * mostSteps) × (19 ≤ length (now out)) ⌝ }
+    requires { ⌜ Standing state (now buffer) (now steps) × (lookedAt ≤ length (now buffer)) × (length (now steps) ≡ 3 * mostSteps) × (19 ≤ length (now out)) ⌝ }
     ensures { λ r. ⌜ (r ≤ length (now (out .entry))) × (
-        (g : Reading) → Stands g state (now (buffer .entry)) (now (steps .entry)) → Finished g (take r (now (out .exit)))) ⌝ }
+        (g : Reading) → Stands g state (now (buffer .entry)) (now (steps .entry)) → Finished g (take r (now (out .exit))))
+        × Untouched r (now (out .entry)) (now (out .exit)) ⌝ }
 {
     let stage = state.stage;
     let n = state.count;

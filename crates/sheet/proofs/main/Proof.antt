@@ -6,11 +6,29 @@ use borrow.Author.Needs.{needs}
 use Rattle.sheet.proofs.main.Statement.{statement}
 use Rattle.sheet.proofs.main.Tie as tie
 
+slice-aggregate-refuses-arguments : tie.Need-slice-aggregate-refuses-arguments
+slice-aggregate-refuses-arguments c = search needs
+
+refuses-arguments-requires : tie.Need-refuses-arguments-requires
+refuses-arguments-requires c κs = search needs
+
+returns : tie.Need-returns
+returns c = search needs
+
 slice-aggregate-read-full : tie.Need-slice-aggregate-read-full
 slice-aggregate-read-full c = search needs
 
 read-full-requires : tie.Need-read-full-requires
 read-full-requires c κs = search needs
+
+slice-aggregate-fail : tie.Need-slice-aggregate-fail
+slice-aggregate-fail c = search needs
+
+fail-requires : tie.Need-fail-requires
+fail-requires c κs = search needs
+
+returns-2 : tie.Need-returns-2
+returns-2 c = search needs
 
 array-share-prefix-text : tie.Need-array-share-prefix-text
 array-share-prefix-text c = search needs
@@ -27,26 +45,52 @@ write-sheet-requires c κs = search needs
 array-share-prefix-output : tie.Need-array-share-prefix-output
 array-share-prefix-output c = search needs
 
-slice-aggregate-write-all : tie.Need-slice-aggregate-write-all
-slice-aggregate-write-all c = sym (length-take-le (c .before .before .write-sheet .result) _ (omega (arith, c .before .before .write-sheet .ensures .0)))
+slice-aggregate-write : tie.Need-slice-aggregate-write
+slice-aggregate-write c = sym (length-take-le (c .before .before .write-sheet .result) _ (omega (arith, c .before .before .write-sheet .ensures .0)))
 
-write-all-requires : tie.Need-write-all-requires
-write-all-requires c κs = search needs
+write-requires : tie.Need-write-requires
+write-requires c κs = search needs
 
-returns : tie.Need-returns
-returns c = search needs
+tell-written-requires : tie.Need-tell-written-requires
+tell-written-requires c κs = search needs
+
+returns-3 : tie.Need-returns-3
+returns-3 c = search needs
+
+close-requires : tie.Need-close-requires
+close-requires c κs = search needs
+
+tell-written-requires-2 : tie.Need-tell-written-requires-2
+tell-written-requires-2 c κs = search needs
+
+returns-4 : tie.Need-returns-4
+returns-4 c = search needs
+
+returns-5 : tie.Need-returns-5
+returns-5 c = search needs
 
 pub main-spec : {M : Type 1} → statement M
 main-spec =
     tie.close
     (tie.spec
+    slice-aggregate-refuses-arguments
+    refuses-arguments-requires
+    returns
     slice-aggregate-read-full
     read-full-requires
+    slice-aggregate-fail
+    fail-requires
+    returns-2
     array-share-prefix-text
     slice-aggregate-write-sheet
     slice-aggregate-write-sheet-2
     write-sheet-requires
     array-share-prefix-output
-    slice-aggregate-write-all
-    write-all-requires
-    returns)
+    slice-aggregate-write
+    write-requires
+    tell-written-requires
+    returns-3
+    close-requires
+    tell-written-requires-2
+    returns-4
+    returns-5)

@@ -1,7 +1,10 @@
 -- `feed` meets its contract, by the stage. Assumes nothing.
+use mathlib.Core.Path.{refl}
 use native.Mathlib.Omega.{arith}
 use denote.Ref.{now}
 use borrow.Author.Needs.{needs}
+use Rattle.programs.specs.Output.{lookedAt}
+use Rattle.programs.proofs.Untouched.{untouched-later}
 use Rattle.programs.proofs.Stages.{stands-count, stands-steps, fed-at-recipe, fed-at-frames, fed-at-done}
 use Rattle.stream.proofs.feed.Statement.{statement}
 use Rattle.stream.proofs.feed.Tie as tie
@@ -46,6 +49,8 @@ returns c =
       r .1,
       omega (arith, r .2),
       λ g k. fed-at-recipe _ _ (a .state) (c .before .before .before .before .before .before .feed-recipe .result .state) (now (a .buffer)) (now (a .steps)) (c .before .before .before .before .before .before .feed-recipe .last .0) (c .before .before .before .before .before .before .feed-recipe .last .1 .1 .0) g k (c .before .before .before .before .before .before .before .before .before .before .enum-told .given .1) (r .3),
+      r .4,
+      r .5,
     )
 
 same-length-4 : tie.Need-same-length-4
@@ -65,12 +70,14 @@ returns-2 c =
       r .1,
       r .2,
       λ g k. fed-at-frames _ _ (a .state) (c .before .before .before .before .feed-frames .result .state) (now (a .buffer)) (now (a .steps)) (c .before .before .before .before .feed-frames .last .1 .0) (now (a .steps)) g k (c .before .before .before .before .before .before .before .before .enum-told2 .given .1) (r .3),
+      r .4,
+      untouched-later (now (a .buffer)) (c .before .before .before .before .feed-frames .last .1 .0) 256 lookedAt (omega arith) (r .5),
     )
 
 returns-3 : tie.Need-returns-3
 returns-3 c =
     let a = c .before .before .before .before .before .before .args in
-    (c .before .before .before .before .before .before .pre .3, omega arith, omega arith, λ g k. fed-at-done _ (a .state) (now (a .buffer)) (now (a .steps)) g k (c .enum-told3 .given .1))
+    (c .before .before .before .before .before .before .pre .3, omega arith, omega arith, λ g k. fed-at-done _ (a .state) (now (a .buffer)) (now (a .steps)) g k (c .enum-told3 .given .1), refl, refl)
 
 pub feed-spec : {M : Type 1} → statement M
 feed-spec =

@@ -33,6 +33,8 @@ returns c =
       r .1,
       r .2,
       λ l line g k f. fed-frames l line _ _ (a .state .steps) (c .before .before .before .before .take-lines .result .count) (c .before .before .before .before .take-lines .last .1 .0) (now (a .steps)) (c .before .before .before .before .before .before .before .before .before .before .before .before .before .pre .1) g (r .3 l line g k f),
+      r .4,
+      r .5,
     )
 
 pub feed-frames-spec : {M : Type 1} → statement M

@@ -1,9 +1,11 @@
 -- `feed_recipe` meets its contract, by what `take_recipe` found and by the recipe's refusal. Assumes nothing.
-use mathlib.Core.Path.{_∙_}
+use mathlib.Core.Path.{refl, _∙_}
 use native.Mathlib.Omega.{arith}
 use lib.ListN.{take}
 use denote.Ref.{now}
 use borrow.Author.Needs.{needs}
+use Rattle.programs.specs.Output.{lookedAt}
+use Rattle.programs.proofs.Untouched.{untouched-later}
 use Rattle.programs.proofs.Stages.{fed-missing, fed-endless, fed-refused, fed-opened}
 use Rattle.stream.proofs.feed_recipe.Statement.{statement}
 use Rattle.stream.proofs.feed_recipe.Tie as tie
@@ -39,6 +41,8 @@ returns c =
       e .1,
       r .0,
       fed-refused (take (a .count) (now (a .buffer))) _ (h .count) (c .before .before .before .before .before .before .before .before .before .before .before .before .before .before .before .take-recipe .last .0) (c .before .before .before .before .before .before .before .read-recipe .last .1 .1 .0) (h .end) (e .2) (e .3) (c .before .before .before .before .before .before .before .read-recipe .result .reading) _ (c .before .before .before .before .before .before .before .before .before .before .before .enum-told2 .given .1) (r .1) (r .2) (c .if1 .taken),
+      r .3,
+      untouched-later (now (a .buffer)) _ (h .count) lookedAt (e .2) (e .4),
     )
 
 enum-told-3 : tie.Need-enum-told-3
@@ -59,6 +63,8 @@ returns-2 c =
       e .1,
       omega arith,
       fed-missing (take (a .count) (now (a .buffer))) _ (h .count) (c .before .before .before .before .take-recipe .last .0) (now (a .steps)) (h .end) (e .2) (e .3) (c .enum-told .given .1),
+      refl,
+      untouched-later (now (a .buffer)) _ (h .count) lookedAt (e .2) (e .4),
     )
 
 same-length-5 : tie.Need-same-length-5
@@ -80,6 +86,8 @@ returns-3 c =
       e .1,
       r .0,
       fed-opened (take (a .count) (now (a .buffer))) _ (h .count) (c .before .before .before .before .before .before .before .before .before .before .before .before .before .before .before .take-recipe .last .0) (c .before .before .before .before .before .before .before .read-recipe .last .1 .1 .0) (h .end) (e .2) (e .3) (c .before .before .before .before .before .before .before .read-recipe .result .reading) _ (c .before .before .before .before .before .before .before .before .before .before .before .enum-told2 .given .1) (r .1) (r .2) (c .before .before .before .before .before .before .before .read-recipe .kept .1 .1 .0 ∙ c .before .before .before .before .before .before .before .before .before .before .before .before .before .before .before .before .before .before .before .before .before .pre .2) (c .if1 .left),
+      r .3,
+      untouched-later (now (a .buffer)) _ (h .count) lookedAt (e .2) (e .4),
     )
 
 same-length-8 : tie.Need-same-length-8
@@ -97,6 +105,8 @@ returns-4 c =
       e .1,
       c .before .before .refusal-line .ensures .0,
       fed-endless (take (a .count) (now (a .buffer))) _ (h .count) (c .before .before .before .before .before .before .before .before .take-recipe .last .0) (now (a .steps)) (h .end) (e .2) (e .3) _ (c .before .before .before .before .enum-told3 .given .1) (c .before .before .refusal-line .ensures .1),
+      c .before .before .refusal-line .ensures .2,
+      untouched-later (now (a .buffer)) _ (h .count) lookedAt (e .2) (e .4),
     )
 
 pub feed-recipe-spec : {M : Type 1} → statement M

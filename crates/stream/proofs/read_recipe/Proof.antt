@@ -1,5 +1,5 @@
 -- `read_recipe` meets its contract, by the recipe's refusal. Assumes nothing.
-use mathlib.Core.Path.{sym, _∙_}
+use mathlib.Core.Path.{refl, sym, _∙_}
 use mathlib.Core.List.{[]}
 use native.Mathlib.Omega.{arith}
 use lib.ListN.{take}
@@ -32,6 +32,7 @@ returns c =
       c .before .before .refusal-line .ensures .0,
       e,
       c .before .before .refusal-line .ensures .1 ∙ sym (read-refused (take (a .n) (now (a .buffer))) (c .before .before .before .before .before .before .before .before .read .result) (c .before .before .before .before .before .before .before .before .read .last .1 .0) e (λ l. []) (c .before .before .before .before .if1 .taken)),
+      c .before .before .refusal-line .ensures .2,
     )
 
 same-length-3 : tie.Need-same-length-3
@@ -41,7 +42,7 @@ returns-2 : tie.Need-returns-2
 returns-2 c =
     let a = c .before .before .before .before .before .before .before .before .before .before .args in
     let e = c .before .before .before .before .read .ensures .1 in
-    (omega arith, e, sym (read-passed (take (a .n) (now (a .buffer))) (c .before .before .before .before .read .result) (c .before .before .before .before .read .last .1 .0) e (λ l. []) (c .if1 .left)))
+    (omega arith, e, sym (read-passed (take (a .n) (now (a .buffer))) (c .before .before .before .before .read .result) (c .before .before .before .before .read .last .1 .0) e (λ l. []) (c .if1 .left)), refl)
 
 pub read-recipe-spec : {M : Type 1} → statement M
 read-recipe-spec =

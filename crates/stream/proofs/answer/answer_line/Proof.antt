@@ -9,7 +9,7 @@ use borrow.Author.Needs.{needs}
 use Rattle.hex.specs.Hex.{digits}
 use Rattle.hex.proofs.Digits.{length-digits}
 use Rattle.programs.proofs.Answers.{answer-refused}
-use Rattle.stream.proofs.Written.{answer-written, answer-same}
+use Rattle.stream.proofs.Written.{answer-written, answer-same, answer-rest}
 use Rattle.stream.proofs.answer.answer_line.Statement.{statement}
 use Rattle.stream.proofs.answer.answer_line.Tie as tie
 
@@ -20,7 +20,7 @@ same-length : tie.Need-same-length
 same-length c = search needs
 
 returns : tie.Need-returns
-returns c = (c .before .before .refusal-line .ensures .0, c .before .before .refusal-line .ensures .1 ∙ sym (answer-refused (c .before .before .before .before .before .before .before .args .a) (c .before .before .before .before .if1 .taken)))
+returns c = (c .before .before .refusal-line .ensures .0, c .before .before .refusal-line .ensures .1 ∙ sym (answer-refused (c .before .before .before .before .before .before .before .args .a) (c .before .before .before .before .if1 .taken)), c .before .before .refusal-line .ensures .2)
 
 slice-relend-prefix-write : tie.Need-slice-relend-prefix-write
 slice-relend-prefix-write c = search needs
@@ -62,6 +62,9 @@ returns-2 c =
       answer-written (s .args .a) line (c .before .before .before .before .before .before .write .last .1 .0) (c .before .before .write2 .last .1 .0) (s .pre) (c .before .before .before .before .before .before .before .before .if1 .left)
           (c .before .before .before .before .before .before .write .ensures ∙ ap (λ (k : ℕ). digits k (s .args .a .kind)) (length-take-le 2 line (omega (arith, s .pre))))
           (c .before .before .write2 .ensures ∙ ap (λ (k : ℕ). digits k (s .args .a .word)) (c .before .before .before .write-arg2 .given .2)),
+      answer-rest line (c .before .before .before .before .before .before .write .last .1 .0) (c .before .before .write2 .last .1 .0) (s .pre)
+          (ap length (c .before .before .before .before .before .before .write .ensures) ∙ length-digits _ _ ∙ length-take-le 2 line (omega (arith, s .pre)))
+          (ap length (c .before .before .write2 .ensures) ∙ length-digits _ _ ∙ c .before .before .before .write-arg2 .given .2),
     )
 
 pub answer-line-spec : {M : Type 1} → statement M

@@ -16,7 +16,7 @@ same-length c = search needs
 returns : tie.Need-returns
 returns c =
     let a = c .before .before .before .before .before .before .before .before .args in
-    (c .before .before .refusal-line .ensures .0, λ l g. c .before .before .refusal-line .ensures .1 ∙ sym (frame-long l (now (a .line)) (c .before .before .before .before .if1 .taken)))
+    (c .before .before .refusal-line .ensures .0, λ l g. c .before .before .refusal-line .ensures .1 ∙ sym (frame-long l (now (a .line)) (c .before .before .before .before .if1 .taken)), c .before .before .refusal-line .ensures .2)
 
 slice-aggregate-run-recipe : tie.Need-slice-aggregate-run-recipe
 slice-aggregate-run-recipe c = search needs
@@ -35,6 +35,7 @@ returns-2 c =
     let a = c .before .before .before .before .before .before .before .before .before .before .before .args in (
       c .before .before .answer-line .ensures .0,
       λ l g. c .before .before .answer-line .ensures .1 ∙ ap answerLine (c .before .before .before .before .before .run-recipe .ensures .1 l g .0 .0) ∙ sym (frame-short l (now (a .line)) (c .before .before .before .before .before .before .before .if1 .left)),
+      c .before .before .answer-line .ensures .2,
     )
 
 pub frame-line-spec : {M : Type 1} → statement M

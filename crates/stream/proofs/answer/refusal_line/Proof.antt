@@ -8,7 +8,7 @@ use denote.Ref.{now}
 use borrow.Author.Needs.{needs}
 use Rattle.hex.specs.Hex.{digits}
 use Rattle.hex.proofs.Digits.{length-digits}
-use Rattle.stream.proofs.Written.{refusal-written, refusal-same}
+use Rattle.stream.proofs.Written.{refusal-written, refusal-same, refusal-rest}
 use Rattle.stream.proofs.answer.refusal_line.Statement.{statement}
 use Rattle.stream.proofs.answer.refusal_line.Tie as tie
 
@@ -66,6 +66,10 @@ returns c =
           (c .before .before .before .before .before .before .before .before .before .before .write .ensures ∙ ap (λ (k : ℕ). digits k 0xff) (length-take-le 2 line (omega (arith, s .pre))))
           (c .before .before .before .before .before .before .write2 .ensures ∙ ap (λ (k : ℕ). digits k (s .args .number)) (c .before .before .before .before .before .before .before .write-arg2 .given .2))
           (c .before .before .write3 .ensures ∙ ap (λ (k : ℕ). digits k (s .args .place)) (c .before .before .before .write-arg3 .given .2)),
+      refusal-rest line (c .before .before .before .before .before .before .before .before .before .before .write .last .1 .0) (c .before .before .before .before .before .before .write2 .last .1 .0) (c .before .before .write3 .last .1 .0) (s .pre)
+          (ap length (c .before .before .before .before .before .before .before .before .before .before .write .ensures) ∙ length-digits _ _ ∙ length-take-le 2 line (omega (arith, s .pre)))
+          (ap length (c .before .before .before .before .before .before .write2 .ensures) ∙ length-digits _ _ ∙ c .before .before .before .before .before .before .before .write-arg2 .given .2)
+          (ap length (c .before .before .write3 .ensures) ∙ length-digits _ _ ∙ c .before .before .before .write-arg3 .given .2),
     )
 
 pub refusal-line-spec : {M : Type 1} → statement M

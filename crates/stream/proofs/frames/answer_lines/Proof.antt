@@ -35,7 +35,7 @@ returns c =
     let l = c .before .before .before .loop in
     let e = c .before .line-end .result in
     let h : e ≡ length (now (a .s)) = omega (arith, c .if1 .taken, c .before .line-end .ensures .within) in
-    (l .inv .room, going-rest (now (a .steps)) (now (a .s)) (a .from) (now (a .out)) (l .out) (l .i) (l .put) (l .inv) e (c .before .line-end .ensures) h)
+    (l .inv .room, going-rest (now (a .steps)) (now (a .s)) (a .from) (now (a .out)) (l .out) (l .i) (l .put) (l .inv) e (c .before .line-end .ensures) h, l .inv .rest)
 
 sub-frame-line : tie.Need-sub-frame-line Inv-loop μ-loop
 sub-frame-line c = omega (arith, c .before .line-end .ensures .after)
@@ -74,8 +74,8 @@ loop-again c =
     let e = c .before .before .before .before .before .before .line-end .result in
     let h : e < length (now (a .s)) = omega (arith, c .before .before .before .before .before .before .line-end .ensures .within, c .before .before .before .before .before .if1 .left) in
     going-more (now (a .steps)) (now (a .s)) (a .from) (now (a .out)) (l .out) (l .i) (l .put) (l .inv)
-    e (c .before .before .frame-line .result) (c .before .before .frame-line .last .1 .1 .0) _ (c .before .before .before .before .before .before .line-end .ensures) h (c .before .before .frame-line .ensures .0) (c .before .before .before .before .before .before .before .loop-test .taken)
-    (c .before .out .given .0 ∙ c .before .before .before .frame-line-arg2 .given .2) (c .before .out .given .1) (c .before .before .frame-line .ensures .1)
+    e (c .before .before .frame-line .result) (c .before .before .frame-line .last .1 .1 .0) (c .before .before .before .before .before .before .line-end .ensures) h (c .before .before .frame-line .ensures .0) (c .before .before .before .before .before .before .before .loop-test .taken)
+    (c .before .out .given .0 ∙ c .before .before .before .frame-line-arg2 .given .2) (c .before .before .frame-line .ensures .2) (c .before .out .given .1) (c .before .before .frame-line .ensures .1)
 
 same-length-2 : tie.Need-same-length-2 Inv-loop μ-loop
 same-length-2 c = c .before .loop .inv .out-length
@@ -84,7 +84,7 @@ returns-2 : tie.Need-returns-2 Inv-loop μ-loop
 returns-2 c =
     let a = c .before .before .before .before .before .args in
     let l = c .before .loop in
-    (l .inv .room, going-full (now (a .steps)) (now (a .s)) (a .from) (now (a .out)) (l .out) (l .i) (l .put) (l .inv) (c .before .before .before .before .before .pre .1) (c .loop-test .left))
+    (l .inv .room, going-full (now (a .steps)) (now (a .s)) (a .from) (now (a .out)) (l .out) (l .i) (l .put) (l .inv) (c .before .before .before .before .before .pre .1) (c .loop-test .left), l .inv .rest)
 
 pub answer-lines-spec : {M : Type 1} → statement M
 answer-lines-spec =

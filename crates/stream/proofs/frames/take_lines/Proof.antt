@@ -1,5 +1,5 @@
 -- `take_lines` meets its contract: the rest of a line, or whole lines and then what the chunk has of the next. Assumes nothing.
-use mathlib.Core.Path.{_≡_}
+use mathlib.Core.Path.{_≡_, refl}
 use mathlib.Core.List.{[]}
 use native.Mathlib.Omega.{arith}
 use denote.Ref.{now}
@@ -35,6 +35,8 @@ returns-2 c =
       o .1 .within,
       o .0,
       λ l line g k f. rw (kept-none line (now (a .buffer)) (a .count) k (omega arith)) (handled-full l (now (a .steps)) (now (a .chunk)) (a .from) r (c .before .before .before .answer-lines .last .1 .1 .1 .0) (o .1) g (now (a .buffer))),
+      o .2,
+      refl,
     )
 
 sub-keep : tie.Need-sub-keep
@@ -66,7 +68,9 @@ returns-3 c =
       o .0,
       λ l line g k f.
           rw (kept-none line (now (a .buffer)) (a .count) k z)
-          (handled-rest l (now (a .steps)) (now (a .chunk)) (a .from) r (c .before .before .before .before .before .before .before .before .answer-lines .last .1 .1 .1 .0) (o .1) g (c .before .before .keep .result) (c .before .before .keep .last .0) (c .before .before .before .before .before .if2 .left) (c .before .before .keep .ensures [] (kept-nothing (now (a .buffer))))),
+          (handled-rest l (now (a .steps)) (now (a .chunk)) (a .from) r (c .before .before .before .before .before .before .before .before .answer-lines .last .1 .1 .1 .0) (o .1) g (c .before .before .keep .result) (c .before .before .keep .last .0) (c .before .before .before .before .before .if2 .left) (c .before .before .keep .ensures .0 [] (kept-nothing (now (a .buffer))))),
+      o .2,
+      c .before .before .keep .ensures .1,
     )
 
 pub take-lines-spec : {M : Type 1} → statement M

@@ -1,4 +1,5 @@
 -- `take_rest` meets its contract: the line is what was kept and the chunk's bytes up to its end. Assumes nothing.
+use mathlib.Core.Path.{refl}
 use mathlib.Core.List.{_++_}
 use Prim.Native.Nat.{_<_}
 use native.Mathlib.Omega.{arith}
@@ -36,7 +37,9 @@ returns c =
       omega (arith, d .after, c .if1 .taken),
       d .within,
       omega arith,
-      λ l line g k f. handled-part l line (now (a .chunk)) (a .from) e d (c .before .before .before .keep .result) (c .before .before .before .keep .last .0) (c .before .before .before .keep .ensures line k) f,
+      λ l line g k f. handled-part l line (now (a .chunk)) (a .from) e d (c .before .before .before .keep .result) (c .before .before .before .keep .last .0) (c .before .before .before .keep .ensures .0 line k) f,
+      refl,
+      c .before .before .before .keep .ensures .1,
     )
 
 kept-line-requires : tie.Need-kept-line-requires
@@ -62,7 +65,9 @@ returns-2 c =
       omega (arith, c .before .before .kept-line .ensures .0, c .before .before .before .before .before .before .before .before .before .before .before .before .before .before .before .before .pre .2),
       λ l line g k f.
           handled-line l line (now (a .chunk)) (a .from) e d (c .before .before .before .before .before .before .before .before .keep .last .0) _ h
-          (c .before .before .kept-line .ensures .1 l (line ++ between (a .from) e (now (a .chunk))) g (c .before .before .before .before .before .before .before .before .keep .ensures line k)),
+          (c .before .before .kept-line .ensures .1 l (line ++ between (a .from) e (now (a .chunk))) g (c .before .before .before .before .before .before .before .before .keep .ensures .0 line k)),
+      c .before .before .kept-line .ensures .2,
+      c .before .before .before .before .before .before .before .before .keep .ensures .1,
     )
 
 pub take-rest-spec : {M : Type 1} → statement M

@@ -11,7 +11,7 @@ use Rattle.stream.proofs.head.take_recipe.Statement.{statement}
 use Rattle.stream.proofs.head.take_recipe.Tie as tie
 
 abbrev Inv-loop : tie.InvT-loop
-Inv-loop buffer₀ count chunk from n₀ last₀ i₀ buffer n last i = Taken (take count buffer₀) chunk from buffer n last i
+Inv-loop buffer₀ count chunk from n₀ last₀ i₀ buffer n last i = Taken buffer₀ (take count buffer₀) chunk from buffer n last i
 
 abbrev μ-loop : tie.MeasureT-loop
 μ-loop buffer₀ count chunk from n₀ last₀ i₀ buffer n last i = length chunk - i
@@ -38,7 +38,7 @@ add-i : tie.Need-add-i Inv-loop μ-loop
 add-i c = omega arith
 
 same-length : tie.Need-same-length Inv-loop μ-loop
-same-length c = omega (arith, c .before .before .before .loop .inv .room)
+same-length c = omega (arith, c .before .before .before .loop .inv .size)
 
 returns : tie.Need-returns Inv-loop μ-loop
 returns c =
@@ -47,11 +47,12 @@ returns c =
       omega (arith, l .inv .after),
       omega (arith, l .inv .within),
       l .inv .few,
-      taken-endless (take (a .count) (now (a .buffer))) (now (a .chunk)) (a .from) (l .buffer) (l .n) (l .last) (l .i) (l .inv) (c .before .before .loop-test .taken) (c .if2 .taken),
+      taken-endless (now (a .buffer)) (take (a .count) (now (a .buffer))) (now (a .chunk)) (a .from) (l .buffer) (l .n) (l .last) (l .i) (l .inv) (c .before .before .loop-test .taken) (c .if2 .taken),
+      l .inv .rest,
     )
 
 same-length-2 : tie.Need-same-length-2 Inv-loop μ-loop
-same-length-2 c = omega (arith, c .before .before .before .before .before .loop .inv .room)
+same-length-2 c = omega (arith, c .before .before .before .before .before .loop .inv .size)
 
 returns-2 : tie.Need-returns-2 Inv-loop μ-loop
 returns-2 c =
@@ -60,11 +61,12 @@ returns-2 c =
       omega (arith, l .inv .after),
       omega (arith, l .inv .within),
       l .inv .few,
-      taken-empty (take (a .count) (now (a .buffer))) (now (a .chunk)) (a .from) (l .buffer) (l .n) (l .last) (l .i) (l .inv) (c .before .before .before .before .loop-test .taken) (c .before .before .if2 .left) (c .before .if3 .taken) (c .if4 .taken),
+      taken-empty (now (a .buffer)) (take (a .count) (now (a .buffer))) (now (a .chunk)) (a .from) (l .buffer) (l .n) (l .last) (l .i) (l .inv) (c .before .before .before .before .loop-test .taken) (c .before .before .if2 .left) (c .before .if3 .taken) (c .if4 .taken),
+      l .inv .rest,
     )
 
 slice-write-buffer : tie.Need-slice-write-buffer Inv-loop μ-loop
-slice-write-buffer c = omega (arith, c .before .before .before .before .loop .inv .room, c .before .before .before .before .loop .inv .few)
+slice-write-buffer c = omega (arith, c .before .before .before .before .loop .inv .size, c .before .before .before .before .loop .inv .room, c .before .before .before .before .loop .inv .few)
 
 add-n : tie.Need-add-n Inv-loop μ-loop
 add-n c = omega arith
@@ -77,17 +79,17 @@ loop-again c =
     let a = c .before .before .before .before .before .before .args in
     let l = c .before .before .before .before .loop in
     let b = getD (now (a .chunk)) (l .i) 0 in
-    taken-more (take (a .count) (now (a .buffer))) (now (a .chunk)) (a .from) (l .buffer) (l .n) (l .last) (l .i) (l .inv) (c .before .before .before .loop-test .taken) (c .before .if2 .left)
+    taken-more (now (a .buffer)) (take (a .count) (now (a .buffer))) (now (a .chunk)) (a .from) (l .buffer) (l .n) (l .last) (l .i) (l .inv) (c .before .before .before .loop-test .taken) (c .before .if2 .left)
     (⊎-elim (λ w. not-after-feed b (l .last) (w .0 .taken) (w .1 .left)) (λ w. not-feed b (l .last) (w .left)) (c .if3 .came))
 
 same-length-3 : tie.Need-same-length-3 Inv-loop μ-loop
-same-length-3 c = omega (arith, c .before .loop .inv .room)
+same-length-3 c = omega (arith, c .before .loop .inv .size)
 
 returns-3 : tie.Need-returns-3 Inv-loop μ-loop
 returns-3 c =
     let a = c .before .before .before .args in
     let l = c .before .loop in
-    (omega (arith, l .inv .within), l .inv .within, l .inv .few, l .inv .same)
+    (omega (arith, l .inv .within), l .inv .within, l .inv .few, l .inv .same, l .inv .rest)
 
 pub take-recipe-spec : {M : Type 1} → statement M
 take-recipe-spec =
