@@ -49,11 +49,18 @@ fn respond_all(input: &[u8], n: usize, output: &mut [u8])
 fn run_some() -> bool {
     let mut input = [0u8; LINES * case::LINE];
     let mut output = [0u8; LINES * answer::LINE];
-    let got = io::read_full(libc::STDIN_FILENO, &mut input);
-    let n = got / case::LINE;
+    let got = stdio::read_full(&mut input);
+    if got.failed {
+        os::fail(b"vectors: answers are incomplete: cannot read standard input");
+        return false;
+    }
+    let n = got.count / case::LINE;
     respond_all(&input, n, &mut output);
-    let is_written = io::write_all(libc::STDOUT_FILENO, &output[..n * answer::LINE]);
-    is_written && n == LINES
+    if !stdio::write(&output[..n * answer::LINE]) {
+        os::fail(b"vectors: answers are incomplete: cannot write standard output");
+        return false;
+    }
+    n == LINES
 }
 
 // A proved loop ends, and nothing says that the input does: the turns are counted down from a number that no run uses up.
