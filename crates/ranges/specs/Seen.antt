@@ -1,4 +1,4 @@
--- What the code's values and ranges, and what a step comes to, stand for. Definitions only; assumes nothing.
+-- What the code's ranges, and what a step's range comes to, stand for. Definitions only; assumes nothing.
 use mathlib.Core.Bool.{not}
 use lib.Dec.{T}
 use lib.Ieee.{binary64, toBits, isNan}

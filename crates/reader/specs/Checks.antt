@@ -1,5 +1,5 @@
 -- What the reader's own functions answer: a line as they tell it, the checks of a step over its operands' kinds, and what they keep of the steps
--- before. `proofs/Steps.antt` shows that they come to `lineAt` and `stepRefusal`. Definitions only; assumes nothing.
+-- before. `proofs/Known.antt` shows that the checks come to `stepRefusal`. Definitions only; assumes nothing.
 use mathlib.Core.Bool.{Bool, false, not, _&&_, _||_, cond}
 use mathlib.Core.Path.{_≡_}
 use mathlib.Core.List.{List}

@@ -1,5 +1,5 @@
--- The step table (document 01, "Recipe text"): what each opcode takes and gives. Reader, run and sheet go by it. Definitions only;
--- assumes nothing.
+-- The step table (document 01, "Recipe text"): what each opcode takes and gives. The reader goes by it, and the run to tell its inputs; the step
+-- and range rules go by the opcode itself. Definitions only; assumes nothing.
 use mathlib.Core.Bool.{Bool, true, false, _&&_, cond}
 use Prim.Native.Nat.{ℕ}
 use lib.Dec.{eqb, leb}

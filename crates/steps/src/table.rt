@@ -1,4 +1,4 @@
-// The step table (document 01, "Recipe text"). Whatever is asked of an opcode is read off its row.
+// The step table (document 01, "Recipe text"). What the reader asks of an opcode, and whether the run takes an input for it, is read off its row.
 ghost use mathlib.Core.Path.{_≡_};
 ghost use Rattle.recipe.specs.Table.{rowOf, answerKind, isInput, sameKind, kindNumber};
 use recipe::Kind;
