@@ -1,4 +1,4 @@
-//! Inputs that are no text, or no input at all.
+//! Inputs that are no text, or have nothing in them.
 
 use crate::literal::EXAMPLE;
 use crate::{assert_same, Program, RUN, SHEET};
@@ -6,7 +6,7 @@ use estrenwind_tests::patterns::Random;
 use estrenwind_tests::reference::recipe::Way;
 use std::fs::File;
 use std::path::Path;
-use std::process::{Command, Stdio};
+use std::process::Command;
 
 fn output_of_file(program: &Path, input: File) -> Vec<u8> {
     let output = Command::new(program).stdin(input).output();
@@ -63,27 +63,6 @@ fn the_examples() {
         }
     }
     assert_eq!(found, 4);
-}
-
-/// Whatever an input that cannot be read may mean, it is no reason to hang or to crash.
-#[test]
-fn an_input_that_cannot_be_read() {
-    for program in [SHEET, RUN] {
-        for path in program.paths() {
-            let folder = File::open("/").unwrap();
-            let output = Command::new(&path)
-                .stdin(folder)
-                .stdout(Stdio::null())
-                .output()
-                .unwrap();
-            assert!(
-                output.status.code().is_some(),
-                "{}: {}",
-                path.display(),
-                output.status
-            );
-        }
-    }
 }
 
 /// Bytes of all values, among which line feeds and digits are common or not.

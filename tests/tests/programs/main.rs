@@ -4,6 +4,7 @@
 mod child;
 mod chunks;
 mod endless;
+mod faults;
 mod files;
 mod generated;
 mod literal;
@@ -47,6 +48,11 @@ impl Program {
             )
         });
         [self.reference.into(), built]
+    }
+
+    fn built(&self) -> PathBuf {
+        let [_, built] = self.paths();
+        built
     }
 
     /// Every program of this name writes for this input what document 01 says.

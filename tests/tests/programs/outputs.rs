@@ -1,8 +1,9 @@
-//! An output that takes no more: the program ends, says nothing, and does not read on.
+//! An output that takes no more: the program ends, says why, and does not read on. The reference's own
+//! programs end without a word.
 
 use crate::child::Child;
 use crate::literal::{EXAMPLE, FRAME};
-use crate::{RUN, SHEET};
+use crate::{Program, RUN, SHEET};
 use std::fs::OpenOptions;
 use std::io::Read;
 use std::os::unix::process::ExitStatusExt;
@@ -12,18 +13,13 @@ use std::process::{Command, ExitStatus, Stdio};
 const SIGPIPE: i32 = 13;
 
 /// The program itself, and the program under a parent that has it ignore SIGPIPE, so that a write
-/// fails where it would else end the program.
-fn starts(program: &Path) -> [(Command, fn(ExitStatus) -> bool); 2] {
+/// fails where it would else end the program; and whether SIGPIPE ends it.
+fn starts(program: &Path) -> [(Command, bool); 2] {
     let mut ignoring = Command::new("sh");
     ignoring
         .args(["-c", "trap '' PIPE; exec \"$0\""])
         .arg(program);
-    [
-        (Command::new(program), |status| {
-            status.code().is_some() || status.signal() == Some(SIGPIPE)
-        }),
-        (ignoring, |status| status.code().is_some()),
-    ]
+    [(Command::new(program), true), (ignoring, false)]
 }
 
 /// Frames as long as the program takes them. It has to stop by itself.
@@ -39,10 +35,32 @@ fn feed_until_it_ends(child: &mut Child) -> (ExitStatus, String) {
     (status, String::from_utf8_lossy(&errors).into_owned())
 }
 
+/// SIGPIPE ended the program, silently; or it did so itself, and said why.
+#[track_caller]
+fn assert_ended(
+    program: &Program,
+    path: &Path,
+    by_signal: bool,
+    (status, errors): (ExitStatus, String),
+    why: &str,
+) {
+    let name = path.display();
+    if path == Path::new(program.reference) {
+        assert!(status.code().is_some(), "{name}: {status}");
+        assert_eq!(errors, "", "{name}");
+    } else if by_signal {
+        assert_eq!(status.signal(), Some(SIGPIPE), "{name}: {status}");
+        assert_eq!(errors, "", "{name}");
+    } else {
+        assert_eq!(status.signal(), None, "{name}: {status}");
+        assert_eq!(errors, program.cannot_write(why), "{name}");
+    }
+}
+
 #[test]
 fn a_reader_that_goes_away() {
-    for program in RUN.paths() {
-        for (mut command, ends_well) in starts(&program) {
+    for path in RUN.paths() {
+        for (mut command, by_signal) in starts(&path) {
             let mut child = Child::spawn(command.stdout(Stdio::piped()));
             let mut output = child.take_output();
             assert!(child.offer(format!("{EXAMPLE}\n").as_bytes()));
@@ -52,35 +70,36 @@ fn a_reader_that_goes_away() {
             output.read_exact(&mut line).unwrap();
             assert_eq!(&line, b"02ffffffffffffffff\n");
             drop(output);
-            let (status, errors) = feed_until_it_ends(&mut child);
-            assert!(ends_well(status), "{}: {status}", program.display());
-            assert_eq!(errors, "");
+            let ended = feed_until_it_ends(&mut child);
+            assert_ended(&RUN, &path, by_signal, ended, "Broken pipe");
         }
     }
 }
 
 #[test]
 fn a_reader_that_was_never_there() {
-    for program in [SHEET, RUN].into_iter().flat_map(|program| program.paths()) {
-        for (mut command, ends_well) in starts(&program) {
-            let mut child = Child::spawn(command.stdout(Stdio::piped()));
-            drop(child.take_output());
-            child.offer(format!("{EXAMPLE}\n").as_bytes());
-            let (status, errors) = feed_until_it_ends(&mut child);
-            assert!(ends_well(status), "{}: {status}", program.display());
-            assert_eq!(errors, "");
+    for program in [SHEET, RUN] {
+        for path in program.paths() {
+            for (mut command, by_signal) in starts(&path) {
+                let mut child = Child::spawn(command.stdout(Stdio::piped()));
+                drop(child.take_output());
+                child.offer(format!("{EXAMPLE}\n").as_bytes());
+                let ended = feed_until_it_ends(&mut child);
+                assert_ended(&program, &path, by_signal, ended, "Broken pipe");
+            }
         }
     }
 }
 
 #[test]
 fn a_full_device() {
-    for program in [SHEET, RUN].into_iter().flat_map(|program| program.paths()) {
-        let full = OpenOptions::new().write(true).open("/dev/full").unwrap();
-        let mut child = Child::spawn(Command::new(&program).stdout(full));
-        child.offer(format!("{EXAMPLE}\n").as_bytes());
-        let (status, errors) = feed_until_it_ends(&mut child);
-        assert!(status.code().is_some(), "{}: {status}", program.display());
-        assert_eq!(errors, "");
+    for program in [SHEET, RUN] {
+        for path in program.paths() {
+            let full = OpenOptions::new().write(true).open("/dev/full").unwrap();
+            let mut child = Child::spawn(Command::new(&path).stdout(full));
+            child.offer(format!("{EXAMPLE}\n").as_bytes());
+            let ended = feed_until_it_ends(&mut child);
+            assert_ended(&program, &path, false, ended, "No space left on device");
+        }
     }
 }

@@ -1,22 +1,28 @@
 //! A small stack: the programs keep their buffers on it, and little else.
 
-use crate::child::Child;
+use crate::child::{Child, Ending};
 use crate::literal::{longest, EXAMPLE, FRAME};
-use crate::{assert_same, Program, RUN, SHEET};
+use crate::{Program, RUN, SHEET};
 use estrenwind_tests::reference::recipe::Way;
 use std::process::Command;
 
-/// The program answers this input in so many KiB of stack. Its environment, which would take a part of
+/// How the program ends on this input in so many KiB of stack. Its environment, which would take a part of
 /// them, is empty. The system starts a stack anywhere in its first 8 KiB, hence the turns.
+fn endings(program: &Program, kib: u32, redirections: &str, input: &[u8]) -> Vec<Ending> {
+    let script = format!("ulimit -s {kib} && exec \"$0\" {redirections}");
+    let ending = |_| {
+        let mut command = Command::new("/bin/sh");
+        command.env_clear().args(["-c", &script]);
+        command.arg(program.built());
+        Child::start_command(&mut command).write(input).ending()
+    };
+    (0..20).map(ending).collect()
+}
+
 fn check(program: &Program, kib: u32, input: &[u8]) {
     let expected = (program.output)(Way::Short, input);
-    let [_, built] = program.paths();
-    let script = format!("ulimit -s {kib} && exec \"$0\"");
-    for _ in 0..20 {
-        let mut command = Command::new("/bin/sh");
-        command.env_clear().args(["-c", &script]).arg(&built);
-        let output = Child::start_command(&mut command).write(input).end();
-        assert_same(&built, input, &output, &expected);
+    for ending in endings(program, kib, "", input) {
+        program.assert_ended(&format!("{kib} KiB of stack"), &ending, &expected, "");
     }
 }
 
@@ -24,20 +30,40 @@ fn recipes() -> [String; 3] {
     [EXAMPLE.to_string(), longest(), "0\n".to_string()]
 }
 
-/// 52 KiB from where the stack starts, and so 60 in all: 40 of them are the buffers of input, output,
-/// text and steps. The aim is 48, in which it does not work yet.
 #[test]
-fn run_in_64_kib() {
+fn run_in_48_kib() {
     let frames = format!("{FRAME}\n401e000000000000\n{}\n{FRAME}\n", "0".repeat(300));
     for recipe in recipes() {
-        check(&RUN, 64, format!("{recipe}\n{frames}").as_bytes());
+        check(&RUN, 48, format!("{recipe}\n{frames}").as_bytes());
     }
 }
 
-/// 20 KiB from where the stack starts, and so 28 in all.
 #[test]
 fn sheet_in_32_kib() {
     for recipe in recipes() {
         check(&SHEET, 32, recipe.as_bytes());
+    }
+}
+
+/// The line about a fault is put together in the same stack.
+#[test]
+fn faults_in_48_kib() {
+    for program in [RUN, SHEET] {
+        for (redirections, errors) in [
+            ("</", program.cannot_read("Is a directory")),
+            (
+                ">/dev/full",
+                program.cannot_write("No space left on device"),
+            ),
+        ] {
+            let input = format!("{}\n{FRAME}\n", longest());
+            let input = match program.name {
+                "run" => input.as_bytes(),
+                _ => &input.as_bytes()[..4_992],
+            };
+            for ending in endings(&program, 48, redirections, input) {
+                program.assert_ended(redirections, &ending, b"", &errors);
+            }
+        }
     }
 }
