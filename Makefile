@@ -135,6 +135,10 @@ processors-deps:  ## install the emulator for test-processors (Debian, as root)
 	@$(call need,apt-get,install packages)
 	apt-get install -y --no-install-recommends qemu-user
 
+faults-deps:  ## install strace, with which the tests have single system calls of the programs fail (Debian, as root)
+	@$(call need,apt-get,install packages)
+	apt-get install -y --no-install-recommends strace
+
 ENDLESS_MIB = 4096
 
 test-endless: build  ## the programs on lines of 4 GiB, in memory that does not grow: long, not in the gate
@@ -173,5 +177,5 @@ fmt:  ## put Rattle and Rust sources in their layout
 clean:  ## remove everything that was built
 	rm -rf build target tests/target bindings/rust/target
 
-.PHONY: help build demo roundings install uninstall test test-c test-readable test-rust test-bindings test-install test-processors processors-deps test-endless \
-	test-exhaustive bench bench-deps fmt clean
+.PHONY: help build demo roundings install uninstall test test-c test-readable test-rust test-bindings test-install test-processors processors-deps faults-deps \
+	test-endless test-exhaustive bench bench-deps fmt clean
