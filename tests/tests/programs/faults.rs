@@ -17,10 +17,11 @@ use crate::{assert_same, Program, RUN, SHEET};
 use estrenwind_tests::reference::recipe::Way;
 use reading::failing_after;
 use std::ffi::{c_char, c_uint};
-use std::fs::File;
+use std::fs::{self, File};
 use std::io::{self, Seek, Write};
 use std::os::fd::FromRawFd;
 use std::os::unix::process::ExitStatusExt;
+use std::path::Path;
 use std::process::Command;
 
 impl Program {
@@ -42,6 +43,14 @@ impl Program {
         };
         let name = self.name;
         format!("{name}: {what}: cannot write standard output: {why}\n")
+    }
+
+    /// How the line about an argument begins.
+    fn usage(&self) -> &'static str {
+        match self.name {
+            "run" => "usage: run <input >answers",
+            _ => "usage: sheet <recipe >sheet",
+        }
     }
 
     /// An input with little to write, one with much, and one with a refusal.
@@ -163,6 +172,22 @@ fn both_fail() {
         false => RUN.cannot_write("No space left on device"),
     };
     RUN.assert_ended("both fail", &ending, b"", &errors);
+}
+
+#[test]
+fn the_documents_have_the_lines() {
+    let folder = Path::new(env!("CARGO_MANIFEST_DIR")).join("..");
+    for program in [RUN, SHEET] {
+        let page = format!("man/{}.1", program.name);
+        for document in ["docs/FORMATS.md", &page] {
+            let text = fs::read_to_string(folder.join(document)).unwrap();
+            let lines = [program.cannot_read(""), program.cannot_write("")];
+            for line in lines.iter().map(|line| line.trim_end()) {
+                assert!(text.contains(line), "{document} lacks {line}");
+            }
+            assert!(text.contains(program.usage()), "{document}");
+        }
+    }
 }
 
 const MFD_CLOEXEC: c_uint = 1;

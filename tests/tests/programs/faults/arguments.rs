@@ -8,10 +8,7 @@ use std::process::Command;
 
 #[test]
 fn usage() {
-    for (program, usage) in [
-        (RUN, "usage: run <input >answers"),
-        (SHEET, "usage: sheet <recipe >sheet"),
-    ] {
+    for program in [RUN, SHEET] {
         for arguments in [
             &["--help"][..],
             &["-h"],
@@ -30,7 +27,11 @@ fn usage() {
             let case = format!("{arguments:?}");
             program.assert_ended(&case, &ending, b"", &ending.errors);
             let line = ending.errors.strip_suffix('\n').unwrap_or_default();
-            assert!(line.starts_with(usage), "{case}: {}", ending.errors);
+            assert!(
+                line.starts_with(program.usage()),
+                "{case}: {}",
+                ending.errors
+            );
             assert!(!line.contains('\n'), "{case}: {}", ending.errors);
             // The two share the place up to which the file has been read.
             assert_eq!(input.stream_position().unwrap(), 0, "{case}");
