@@ -323,17 +323,3 @@ fn waiting_is_interrupted() {
             .assert_ended("an interrupted wait", &traced.ending, &case.whole(), "");
     }
 }
-
-/// The line about a fault is written whole, though its write is interrupted.
-#[test]
-fn the_message_is_interrupted() {
-    for case in cases() {
-        let first = case.with(&[]).places("read", 0)[0];
-        let read = format!("read:error=EIO:when={first}");
-        let traced = case.with(&[&read, "write:error=EINTR:when=1"]);
-        traced.bytes_before("write", 2);
-        let errors = case.program.cannot_read("Input/output error");
-        case.program
-            .assert_ended("an interrupted message", &traced.ending, b"", &errors);
-    }
-}
