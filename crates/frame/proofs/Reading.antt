@@ -10,8 +10,10 @@ use native.Mathlib.Omega.{arith}
 use native.Mathlib.Numerals.{add-one}
 use lib.ListN.{length, take, drop, set, getD, replicate, length-set, getD-replicate, List·getD-eq-default}
 use lib.Seq.{getD-take, getD-set-other, length-take-le}
-use Rattle.hex.specs.Hex.{fieldOf}
+use Rattle.hex.specs.Hex.{fieldOf, wordField}
+use Rattle.hex.specs.declared.Field.{Field}
 use Rattle.hex.specs.declared.Field.the-variants.{Value, Malformed as Bad}
+use Rattle.hex.proofs.Laws.{word-part}
 use Rattle.recipe.specs.declared.Row.{Row}
 use Rattle.recipe.specs.declared.Row.the-variants.{Unknown, Input, Constant, Unary, Binary}
 use Rattle.recipe.specs.declared.Step.{Step}
@@ -48,6 +50,12 @@ counting-more w n next i g h t q m e b =
     }
 
 -- ---- the words
+
+-- what the 16 digits of input k come to
+pub field-at : (s : List ℕ) (k : ℕ) → k * 16 + 16 ≤ length s → {x f : Field} → x ≡ wordField (take (k * 16 + 16 - k * 16) (drop (k * 16) s)) → x ≡ f → fieldOf s (k * 16) 16 0 ≡ f
+field-at s k h e d =
+    let n : k * 16 + 16 - k * 16 ≡ 16 = omega arith in
+    rw n at (word-part s (k * 16) (k * 16 + 16) (omega arith) h (omega arith) e d)
 
 field-good : (s : List ℕ) (m k : ℕ) (l : List ℕ) (w : ℕ) → fieldOf s (k * 16) 16 0 ≡ Value w → wordsFrom s (suc m) k l ≡ wordsFrom s m (suc k) (l ++ (w ∷ []))
 unfolding wordsFrom onField

@@ -63,7 +63,8 @@ pub fn read_words(frame: &[u8], n: usize) -> Inputs
     let mut words = [0u64; 16];
     let mut i: usize = 0;
     while i < n {
-        let w = match hex::read(frame, i * 16, 16) {
+        let at = i * 16;
+        let w = match hex::read(&frame[at..at + 16]) {
             Field::Value(w) => w,
             Field::Malformed => {
                 return Inputs {

@@ -72,23 +72,22 @@ pub done-zero : (s : List ℕ) (at a : ℕ) → fieldOf s at 0 a ≡ Value a
 unfolding fieldOf
 done-zero s at a = refl
 
-module _ (s : List ℕ) (at n i a : ℕ) where
-  pub field-bad : i < n → 15 < digitOf (getD s (at + i) 0) → fieldOf s (at + i) (n - i) a ≡ Malformed
+module _ (s : List ℕ) (n i a : ℕ) where
+  pub field-bad : i < n → 15 < digitOf (getD s i 0) → fieldOf s i (n - i) a ≡ Malformed
   field-bad h d =
       let e : n - i ≡ suc (n - (i + 1)) = omega arith in
-      rw e (bad-suc s (at + i) (n - (i + 1)) a d)
+      rw e (bad-suc s i (n - (i + 1)) a d)
 
-  pub field-good : i < n → digitOf (getD s (at + i) 0) ≤ 15
-      → fieldOf s (at + i) (n - i) a ≡ fieldOf s (at + (i + 1)) (n - (i + 1)) (a * 16 + digitOf (getD s (at + i) 0))
+  pub field-good : i < n → digitOf (getD s i 0) ≤ 15
+      → fieldOf s i (n - i) a ≡ fieldOf s (i + 1) (n - (i + 1)) (a * 16 + digitOf (getD s i 0))
   field-good h d =
       let e : n - i ≡ suc (n - (i + 1)) = omega arith in
-      let f : at + (i + 1) ≡ suc (at + i) = omega arith in
-      rw (e, f) (good-suc s (at + i) (n - (i + 1)) a d)
+      rw (e, add-one) (good-suc s i (n - suc i) a d)
 
-  pub field-done : n ≤ i → fieldOf s (at + i) (n - i) a ≡ Value a
+  pub field-done : n ≤ i → fieldOf s i (n - i) a ≡ Value a
   field-done h =
       let e : n - i ≡ 0 = omega arith in
-      rw e (done-zero s (at + i) a)
+      rw e (done-zero s i a)
 
 pub digits-more : (i a d : ℕ) → a < 16 ^ i → d ≤ 15 → a * 16 + d < 16 ^ (i + 1)
 digits-more i a d h k = let e : 16 ^ (i + 1) ≡ 16 ^ i * 16 = rw add-one (pow-suc 16 i) in omega arith

@@ -1,15 +1,18 @@
--- What a user of the fields would state: the value of n digits is below 16 ^ n, and digits that were written are read back. Both go by
--- induction on the digits, with the digits that came before open as the value a. Assumes nothing.
+-- What a user of the fields would state: the value of n digits is below 16 ^ n, a field is the same in a part of the text, a field of up
+-- to 16 digits is read as a word, and digits that were written are read back. Each but the word goes by induction on the digits, with the digits
+-- that came before open as the value a. Assumes nothing.
 use mathlib.Core.Path.{_≡_, refl, ap, _∙_, sym}
 use mathlib.Core.List.{List, [], _∷_, _++_, append-assoc}
 use mathlib.Core.Logic.{⊎-elim}
-use Prim.Native.Nat.{ℕ, zero, suc, _+_, _*_, _/_, _%_, _^_, _<_}
+use Prim.Native.Nat.{ℕ, zero, suc, _+_, _-_, _*_, _/_, _%_, _^_, _≤_, _<_}
 use native.Mathlib.Nat.{pow-suc}
 use native.Mathlib.Omega.{arith}
 use lib.Dec.{ltb}
-use lib.ListN.{length, getD}
-use lib.Seq.{getD-append-add, getD-at}
-use Rattle.hex.specs.Hex.{digitOf, fieldOf, glyphOf, digits}
+use lib.ListN.{length, length-drop, getD, take, drop}
+use lib.Seq.{length-take-le, getD-append-add, getD-at, getD-take, getD-drop}
+use borrow.Author.Tests.{lt-ltb, le-ltb}
+use Rattle.hex.specs.Hex.{digitOf, fieldOf, wordField, glyphOf, digits}
+use Rattle.hex.specs.declared.Field.{Field}
 use Rattle.hex.specs.declared.Field.the-variants.{Value, Malformed}
 use Rattle.hex.proofs.Digits.{by-test, digit-glyph, bad-suc, good-suc, done-zero, digits-more, length-digits}
 
@@ -35,6 +38,47 @@ field-below-after s (suc n) at j a v h e =
 -- the value of n digits is below 16 ^ n
 pub field-below : (s : List ℕ) (at n v : ℕ) → fieldOf s at n 0 ≡ Value v → v < 16 ^ n
 field-below s at n v e = let f : 0 + n ≡ n = omega arith in rw f at (field-below-after s n at 0 0 v (omega arith) e)
+
+-- ---- in a part of the text
+
+-- a field of the m bytes of s from at, k bytes into them
+pub field-part : (s : List ℕ) (at m n k a : ℕ) → k + n ≤ m → fieldOf (take m (drop at s)) k n a ≡ fieldOf s (at + k) n a
+field-part s at m zero k a h = done-zero (take m (drop at s)) k a ∙ sym (done-zero s (at + k) a)
+field-part s at m (suc n) k a h =
+    let e : getD (take m (drop at s)) k 0 ≡ getD s (at + k) 0 = getD-take m (drop at s) k 0 (omega arith) ∙ getD-drop at s k 0 in
+    let f : at + suc k ≡ suc (at + k) = omega arith in
+    ⊎-elim
+    (λ (d : 15 < digitOf (getD s (at + k) 0)). bad-suc (take m (drop at s)) k n a (rw e d) ∙ sym (bad-suc s (at + k) n a d))
+    (λ (d : digitOf (getD s (at + k) 0) ≤ 15).
+    good-suc (take m (drop at s)) k n a (rw e d)
+    ∙ rw (e, ← f) (field-part s at m n (suc k) (a * 16 + digitOf (getD s (at + k) 0)) (omega arith))
+    ∙ sym (good-suc s (at + k) n a d))
+    (by-test 15 (digitOf (getD s (at + k) 0)) (ltb 15 (digitOf (getD s (at + k) 0))) refl)
+
+-- ---- as a word
+
+pub word-field : (s : List ℕ) → length s ≤ 16 → wordField s ≡ fieldOf s 0 (length s) 0
+unfolding wordField
+word-field s h = simp (le-ltb 16 (length s) h)
+
+pub word-field-long : (s : List ℕ) → 16 < length s → wordField s ≡ Malformed
+unfolding wordField
+word-field-long s h = simp (lt-ltb 16 (length s) h)
+
+-- what the bytes of s from `at` up to `end`, read as a word, come to
+pub word-part : (s : List ℕ) (at end : ℕ) → at ≤ end → end ≤ length s → end ≤ at + 16 → {x f : Field} → x ≡ wordField (take (end - at) (drop at s)) → x ≡ f
+    → fieldOf s at (end - at) 0 ≡ f
+word-part s at end g h k e d =
+    let n : ℕ = end - at in
+    let z : at + 0 ≡ at = omega arith in
+    let l : length (take n (drop at s)) ≡ n = length-take-le n (drop at s) (simp length-drop (omega arith)) in
+    sym
+    (word-field (take n (drop at s)) (omega arith)
+    ∙ ap (λ (m : ℕ). fieldOf (take n (drop at s)) 0 m 0) l
+    ∙ field-part s at n n 0 0 (omega arith)
+    ∙ ap (λ (m : ℕ). fieldOf s m n 0) z)
+    ∙ sym e
+    ∙ d
 
 -- ---- read back
 

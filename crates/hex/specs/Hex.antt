@@ -2,7 +2,7 @@
 use Prim.Native.Nat.{ℕ, zero, suc, _+_, _-_, _*_, _/_, _%_}
 use mathlib.Core.Bool.{true, false, cond}
 use mathlib.Core.List.{List, [], _∷_, _++_}
-use lib.ListN.{getD}
+use lib.ListN.{length, getD}
 use lib.Dec.{ltb, leb}
 use Rattle.hex.specs.declared.Field.{Field}
 use Rattle.hex.specs.declared.Field.the-variants.{Value, Malformed}
@@ -18,6 +18,10 @@ unfoldable pub fieldOf : List ℕ → ℕ → ℕ → ℕ → Field
 fieldOf s at zero a = Value a
 fieldOf s at (suc n) a =
     elim (ltb 15 (digitOf (getD s at 0))) [ true ↦ Malformed | false ↦ fieldOf s (suc at) n (a * 16 + digitOf (getD s at 0)) ]
+
+-- all of s as one field, whose value is a word: more than 16 digits have none
+unfoldable pub wordField : List ℕ → Field
+wordField s = cond (ltb 16 (length s)) Malformed (fieldOf s 0 (length s) 0)
 
 -- ---- written
 

@@ -1,8 +1,8 @@
 // Numbers as lower-case hexadecimal digits: read from text, and written to it.
 ghost use mathlib.Core.Path.{_≡_};
-ghost use Prim.Native.Nat.{_+_, _≤_, _<_};
+ghost use Prim.Native.Nat.{_<_};
 ghost use lib.ListN.{length};
-ghost use Rattle.hex.specs.Hex.{digitOf, fieldOf, glyphOf, digits};
+ghost use Rattle.hex.specs.Hex.{digitOf, wordField, glyphOf, digits};
 
 // What a field of digits says.
 pub enum Field {
@@ -23,15 +23,18 @@ fn digit(b: u8) -> u64
     if n < 10 { n } else { other }
 }
 
-// The n digits of s from at: at most 16, so that their value fits a word.
-pub fn read(s: &[u8], at: usize, n: usize) -> Field
-    requires { ⌜ (at + n ≤ length (now s)) × (n ≤ 16) ⌝ }
-    ensures { λ r. ⌜ r ≡ fieldOf (now (s .entry)) at n 0 ⌝ }
+// The digits of s, as one field. More than 16 are malformed, since a word may have no room for their value.
+pub fn read(s: &[u8]) -> Field
+    ensures { λ r. ⌜ r ≡ wordField (now (s .entry)) ⌝ }
 {
+    let n = s.len();
+    if n > 16 {
+        return Field::Malformed;
+    }
     let mut value: u64 = 0;
     let mut i: usize = 0;
     while i < n {
-        let d = digit(s[at + i]);
+        let d = digit(s[i]);
         if d > 15 {
             return Field::Malformed;
         }

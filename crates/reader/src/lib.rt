@@ -7,7 +7,7 @@ ghost use Rattle.recipe.specs.Answer.{Says, Refused};
 use checks::input_count;
 use checks::judge;
 use lines::Line;
-use lines::line_at;
+use lines::line_of;
 use recipe::LINE_LENGTH;
 use recipe::LONGEST_TEXT;
 use recipe::MOST_STEPS;
@@ -63,7 +63,8 @@ pub fn read(text: &[u8], steps: &mut [u64]) -> Reading
     let mut inputs: u64 = 0;
     let mut i: usize = 0;
     while i < n {
-        let t = match line_at(text, i * LINE_LENGTH) {
+        let at = i * LINE_LENGTH;
+        let t = match line_of(&text[at..at + LINE_LENGTH]) {
             Line::Good(t) => t,
             Line::Malformed => return refused(11, i),
         };

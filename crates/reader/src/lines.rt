@@ -1,6 +1,6 @@
 // One line of a recipe's text: five fields of digits and a line feed.
 ghost use mathlib.Core.Path.{_≡_};
-ghost use Prim.Native.Nat.{_+_, _≤_};
+ghost use Prim.Native.Nat.{_≤_};
 ghost use lib.ListN.{length};
 ghost use Rattle.recipe.specs.Text.{short, lineLength, lineAt};
 ghost use Rattle.reader.specs.Checks.{told};
@@ -14,32 +14,32 @@ pub enum Line {
     Malformed,
 }
 
-// The line of s that starts at the byte `at`.
-pub(crate) fn line_at(s: &[u8], at: usize) -> Line
-    requires { ⌜ at + lineLength short ≤ length (now s) ⌝ }
-    ensures { λ r. ⌜ r ≡ told (lineAt short (now (s .entry)) at) ⌝ }
+// The line of the bytes s.
+pub(crate) fn line_of(s: &[u8]) -> Line
+    requires { ⌜ lineLength short ≤ length (now s) ⌝ }
+    ensures { λ r. ⌜ r ≡ told (lineAt short (now (s .entry)) 0) ⌝ }
 {
-    let opcode = match hex::read(s, at, 2) {
+    let opcode = match hex::read(&s[0..2]) {
         Field::Value(v) => v,
         Field::Malformed => return Line::Malformed,
     };
-    let a = match hex::read(s, at + 2, 2) {
+    let a = match hex::read(&s[2..4]) {
         Field::Value(v) => v,
         Field::Malformed => return Line::Malformed,
     };
-    let b = match hex::read(s, at + 4, 2) {
+    let b = match hex::read(&s[4..6]) {
         Field::Value(v) => v,
         Field::Malformed => return Line::Malformed,
     };
-    let p = match hex::read(s, at + 6, 16) {
+    let p = match hex::read(&s[6..22]) {
         Field::Value(v) => v,
         Field::Malformed => return Line::Malformed,
     };
-    let q = match hex::read(s, at + 22, 16) {
+    let q = match hex::read(&s[22..38]) {
         Field::Value(v) => v,
         Field::Malformed => return Line::Malformed,
     };
-    if s[at + 38] != b'\n' {
+    if s[38] != b'\n' {
         return Line::Malformed;
     }
     Line::Good(Step {

@@ -56,16 +56,16 @@ pub fn parse(line: &[u8]) -> Parsed
     if !separated(line) {
         return Parsed::Malformed;
     }
-    let hex::Field::Value(function) = hex::read(line, 0, 2) else {
+    let hex::Field::Value(function) = hex::read(&line[0..2]) else {
         return Parsed::Malformed;
     };
-    let hex::Field::Value(width) = hex::read(line, 3, 2) else {
+    let hex::Field::Value(width) = hex::read(&line[3..5]) else {
         return Parsed::Malformed;
     };
-    let hex::Field::Value(x) = hex::read(line, 6, 16) else {
+    let hex::Field::Value(x) = hex::read(&line[6..22]) else {
         return Parsed::Malformed;
     };
-    let hex::Field::Value(y) = hex::read(line, 23, 16) else {
+    let hex::Field::Value(y) = hex::read(&line[23..39]) else {
         return Parsed::Malformed;
     };
     Parsed::Case(Case {
