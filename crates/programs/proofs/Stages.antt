@@ -27,8 +27,8 @@ use Rattle.programs.proofs.FrameLines.{kept-nothing, plain-none}
 -- ---- a recipe that was read
 
 module _ (t : List ℕ) (r : Read) (w : List ℕ) (g : Says (readText short t) r w) (more : List Step → List ℕ) where
-  pub read-refused : (r .refusal ≡ 0 → ⊥) → onRecipe (readText short t) more ≡ refusalLine (r .refusal) (r .place)
-  read-refused h = refused-recipe (readText short t) more (r .refusal) (r .place) (answer-refused t r w g h)
+  pub read-refused : (r .refusal ≡ 0 → ⊥) → onRecipe (readText short t) more ≡ refusalLine (r .refusal) (r .place .0)
+  read-refused h = refused-recipe (readText short t) more (r .refusal) (r .place .0) (answer-refused t r w g h)
 
   pub read-passed : r .refusal ≡ 0 → onRecipe (readText short t) more ≡ more (stepsIn w (r .count))
   read-passed h = passed-recipe (readText short t) more (stepsIn w (r .count)) (answer-steps t r w g h)

@@ -73,7 +73,7 @@ module _ (s : List ℕ) (n : ℕ) (w kinds : List ℕ) (inputs i : ℕ) (g : Goi
       → (r : Reading) → Refused q i r → Says (readText short s) r w
   says-refused h t e q eq z r d = rw (g .same ∙ read-refused short s n i (stepsIn w i) t h e (λ x. z (eq ∙ x)), ← eq) d
 
-  pub says-done : n ≤ i → Says (readText short s) (record { count = n; refusal = 0; place = 0 }) w
+  pub says-done : n ≤ i → Says (readText short s) (record { count = n; refusal = 0; place = record { 0 = 0 } }) w
   says-done h =
       let e : i ≡ n = omega (arith, g .within) in
       rw (g .same ∙ read-done short s n i (stepsIn w i) h)

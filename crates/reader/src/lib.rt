@@ -12,6 +12,7 @@ use recipe::LINE_LENGTH;
 use recipe::LONGEST_TEXT;
 use recipe::MOST_STEPS;
 use recipe::Reading;
+use recipe::StepNumber;
 use steps::any;
 use steps::put_step;
 use steps::table::answer_kind;
@@ -29,13 +30,13 @@ fn bad_length(n: usize) -> bool
 }
 
 // The answer to a text that is turned down at a place.
-fn refused(number: u64, place: usize) -> Reading
-    ensures { λ r. ⌜ Refused number place r ⌝ }
+fn refused(number: u64, place: StepNumber) -> Reading
+    ensures { λ r. ⌜ Refused number (place .0) r ⌝ }
 {
     Reading {
         count: 0,
         refusal: number,
-        place: place as u64,
+        place,
     }
 }
 
@@ -55,7 +56,7 @@ pub fn read(text: &[u8], steps: &mut [u64]) -> Reading
 {
     let size = text.len();
     if bad_length(size) {
-        return refused(10, 0);
+        return refused(10, StepNumber(0));
     }
     let n = size / LINE_LENGTH;
     // the number of each step's kind, and of a double's where no step stands yet
@@ -66,7 +67,7 @@ pub fn read(text: &[u8], steps: &mut [u64]) -> Reading
         let at = i * LINE_LENGTH;
         let t = match line_of(&text[at..at + LINE_LENGTH]) {
             Line::Good(t) => t,
-            Line::Malformed => return refused(11, i),
+            Line::Malformed => return refused(11, StepNumber(i as u16)),
         };
         // What the row says is asked while its tests are still at hand: the compiler then folds the answers into them.
         let row = row_of(t.opcode);
@@ -74,7 +75,7 @@ pub fn read(text: &[u8], steps: &mut [u64]) -> Reading
         let counted = input_count(row);
         let refusal = judge(&kinds, i as u64, inputs, row, t);
         if refusal != 0 {
-            return refused(refusal, i);
+            return refused(refusal, StepNumber(i as u16));
         }
         put_step(steps, i, t);
         kinds[i] = kind;
@@ -84,6 +85,6 @@ pub fn read(text: &[u8], steps: &mut [u64]) -> Reading
     Reading {
         count: n,
         refusal: 0,
-        place: 0,
+        place: StepNumber(0),
     }
 }

@@ -190,7 +190,7 @@ inputs-so-far most l g (suc k) h =
 
 -- by whether the answer has a refusal, where 0 is the number of none
 pub says-which : (t : Text) (r : Reading) (w : List ℕ) → ((n p : ℕ) → t ≡ refused n p → 0 < n) → Says t r w
-    → (r .refusal ≡ 0 → t ≡ steps (stepsIn w (r .count))) × ((r .refusal ≡ 0 → ⊥) → t ≡ refused (r .refusal) (r .place))
+    → (r .refusal ≡ 0 → t ≡ steps (stepsIn w (r .count))) × ((r .refusal ≡ 0 → ⊥) → t ≡ refused (r .refusal) (r .place .0))
 says-which (steps l) r w h g = (λ e. rw (g .kept), λ e. absurd (e (g .not-refused)))
 says-which (refused n p) r w h g =
     let z = h n p refl in

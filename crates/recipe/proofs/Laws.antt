@@ -63,5 +63,5 @@ module _ (s : List ℕ) (r : Reading) (w : List ℕ) (g : Says (readText short s
   answer-holds e h = holds-first w (r .count) h (answer-formed e)
 
   -- Any other answer has the text's refusal.
-  pub answer-refused : (r .refusal ≡ 0 → ⊥) → readText short s ≡ refused (r .refusal) (r .place)
+  pub answer-refused : (r .refusal ≡ 0 → ⊥) → readText short s ≡ refused (r .refusal) (r .place .0)
   answer-refused e = says-which (readText short s) r w (refusal-positive short s) g .1 e

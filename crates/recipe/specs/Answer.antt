@@ -14,14 +14,14 @@ use Rattle.recipe.specs.Packed.{stepsIn, stepsOf}
 -- the text has the steps l, and they stand in the first words of w
 pub record Passed (l : List Step) (r : Reading) (w : List ℕ) : Type 0 where
   pub not-refused : r .refusal ≡ 0
-  pub no-place : r .place ≡ 0
+  pub no-place : r .place .0 ≡ 0
   pub counted : r .count ≡ length l
   pub kept : stepsIn w (r .count) ≡ l
 
 -- the answer has a refusal's number and place; what stands in the words is left free
 pub record Refused (number k : ℕ) (r : Reading) : Type 0 where
   pub numbered : r .refusal ≡ number
-  pub placed : r .place ≡ k
+  pub placed : r .place .0 ≡ k
   pub none : r .count ≡ 0
 
 abbrev pub Says : Text → Reading → List ℕ → Type 0

@@ -42,10 +42,10 @@ pub struct Step {
     pub q: u64,
 }
 
-// What the reader answers: how many steps it read. Or the number of a refusal, 10 to 17, and its place, with `count` 0; `refusal` is 0 where
-// there is none.
+// What the reader answers: how many steps it read. Or the number of a refusal, 10 to 17, and its place, a step or 0 of refusal 10, with
+// `count` 0; `refusal` is 0 where there is none.
 pub struct Reading {
     pub count: usize,
     pub refusal: u64,
-    pub place: u64,
+    pub place: StepNumber,
 }

@@ -143,8 +143,8 @@ module _ (w s : List ℕ) (room : ℕ) (b : badWords (length w) ≡ false) (n : 
 
 module _ (t s : List ℕ) (room : ℕ) (r : Reading) (w : List ℕ) (g : Says (readText short t) r w) where
   -- the reader's refusal
-  pub text-refused : (r .refusal ≡ 0 → ⊥) → runOf t s room ≡ refused (r .refusal) (r .place)
-  text-refused h = law.run-refused t s room (r .refusal) (r .place) (answer-refused t r w g h)
+  pub text-refused : (r .refusal ≡ 0 → ⊥) → runOf t s room ≡ refused (r .refusal) (r .place .0)
+  text-refused h = law.run-refused t s room (r .refusal) (r .place .0) (answer-refused t r w g h)
 
   -- else the words read are run, and these alone
   pub text-run : r .refusal ≡ 0 → length w ≡ 3 * mostSteps → runWords (take (3 * r .count) w) s room ≡ runOf t s room

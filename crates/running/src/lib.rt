@@ -32,23 +32,28 @@ use values::Value;
 use values::place_of;
 use values::step::step_value;
 
-// The answer of a refusal.
-fn refusal(number: u64, place: u64) -> RunAnswer
-    ensures { λ r. ⌜ r ≡ answerOf (refused number place) ⌝ }
+// The answer of a refusal at place 0, which is no step's.
+fn refusal(number: u64) -> RunAnswer
+    ensures { λ r. ⌜ r ≡ answerOf (refused number 0) ⌝ }
 {
     RunAnswer {
         refusal: number,
-        place,
+        place: 0,
         kind: 0,
         word: 0,
     }
 }
 
-// The same where the place is a step.
+// The answer of a refusal at a step.
 fn refusal_at(number: u64, step: StepNumber) -> RunAnswer
     ensures { λ r. ⌜ r ≡ answerOf (refused number (step .0)) ⌝ }
 {
-    refusal(number, step.0 as u64)
+    RunAnswer {
+        refusal: number,
+        place: step.0 as u64,
+        kind: 0,
+        word: 0,
+    }
 }
 
 // Runs the first n steps, and writes their words only after the last has its value.
@@ -114,22 +119,22 @@ pub fn run_recipe(steps: &[u64], frame: &[u8], words: &mut [u64]) -> RunAnswer
 {
     let size = steps.len();
     if bad_words(size) {
-        return refusal(10, 0);
+        return refusal(10);
     }
     let n = size / 3;
     let m = input_total(steps, n);
     if m > 16 {
-        return refusal(17, 0);
+        return refusal(17);
     }
     if words.len() < n {
-        return refusal(40, 0);
+        return refusal(40);
     }
     if frame.len() != m * 16 {
-        return refusal(30, 0);
+        return refusal(30);
     }
     let inputs = read_words(frame, m);
     if inputs.malformed {
-        return refusal(31, 0);
+        return refusal(31);
     }
     match check_ranges(steps, n, inputs) {
         Ranges::Within => evaluate(steps, n, inputs, words),
@@ -146,7 +151,7 @@ pub fn run(text: &[u8], frame: &[u8], words: &mut [u64]) -> RunAnswer
     let mut steps = [0u64; MOST_WORDS];
     let recipe = read(text, &mut steps);
     if recipe.refusal != 0 {
-        return refusal(recipe.refusal, recipe.place);
+        return refusal_at(recipe.refusal, recipe.place);
     }
     let size = 3 * recipe.count;
     run_recipe(&steps[..size], frame, words)

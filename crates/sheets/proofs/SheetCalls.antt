@@ -53,8 +53,8 @@ holds-sheet l w room h = rw (holds-words l w h, h .kept, carried-same l (declare
 
 module _ (t : List ℕ) (room : ℕ) (r : Reading) (w : List ℕ) (g : Says (readText short t) r w) where
   -- the reader's refusal
-  pub text-refused : (r .refusal ≡ 0 → ⊥) → sheetOf t room ≡ refused (r .refusal) (r .place)
-  text-refused h = law.sheet-refused t room (r .refusal) (r .place) (answer-refused t r w g h)
+  pub text-refused : (r .refusal ≡ 0 → ⊥) → sheetOf t room ≡ refused (r .refusal) (r .place .0)
+  text-refused h = law.sheet-refused t room (r .refusal) (r .place .0) (answer-refused t r w g h)
 
   -- else the sheet is that of the words read, and of these alone
   pub text-sheet : r .refusal ≡ 0 → length w ≡ 3 * mostSteps → sheetWords (take (3 * r .count) w) room ≡ sheetOf t room

@@ -18,6 +18,7 @@ use ranges::bounds::step_range;
 use reader::read;
 use recipe::MOST_STEPS;
 use recipe::MOST_WORDS;
+use recipe::StepNumber;
 use semantics::SHEET_LINE;
 use semantics::SheetAnswer;
 use steps::bad_words;
@@ -25,13 +26,24 @@ use steps::step_at;
 use steps::table::kind_number;
 use values::place_of;
 
-// The answer of a refusal.
-fn turned_down(number: u64, place: u64) -> SheetAnswer
-    ensures { λ r. ⌜ r ≡ answerOf (refused number place) ⌝ }
+// The answer of a refusal at place 0, which is no step's.
+fn refusal(number: u64) -> SheetAnswer
+    ensures { λ r. ⌜ r ≡ answerOf (refused number 0) ⌝ }
 {
     SheetAnswer {
         refusal: number,
-        place,
+        place: 0,
+        steps: 0,
+    }
+}
+
+// The answer of a refusal at a step.
+fn refusal_at(number: u64, step: StepNumber) -> SheetAnswer
+    ensures { λ r. ⌜ r ≡ answerOf (refused number (step .0)) ⌝ }
+{
+    SheetAnswer {
+        refusal: number,
+        place: step.0 as u64,
         steps: 0,
     }
 }
@@ -64,7 +76,7 @@ fn write_sheet(steps: &[u64], n: usize, bytes: &mut [u8]) -> SheetAnswer
         let b = ranges[g];
         let r = match step_range(t, a, b) {
             Bound::Ranged(r) => r,
-            Bound::Refused(number) => return turned_down(number, i as u64),
+            Bound::Refused(number) => return refusal_at(number, StepNumber(i as u16)),
         };
         ranges[i] = r;
         i += 1;
@@ -100,11 +112,11 @@ pub fn sheet_recipe(steps: &[u64], bytes: &mut [u8]) -> SheetAnswer
 {
     let size = steps.len();
     if bad_words(size) {
-        return turned_down(10, 0);
+        return refusal(10);
     }
     let n = size / 3;
     if bytes.len() < n * SHEET_LINE {
-        return turned_down(40, 0);
+        return refusal(40);
     }
     write_sheet(steps, n, bytes)
 }
@@ -117,7 +129,7 @@ pub fn sheet(text: &[u8], bytes: &mut [u8]) -> SheetAnswer
     let mut steps = [0u64; MOST_WORDS];
     let recipe = read(text, &mut steps);
     if recipe.refusal != 0 {
-        return turned_down(recipe.refusal, recipe.place);
+        return refusal_at(recipe.refusal, recipe.place);
     }
     let size = 3 * recipe.count;
     sheet_recipe(&steps[..size], bytes)

@@ -49,7 +49,7 @@ fn read_recipe(buffer: &[u8], n: usize, steps: &mut [u64], out: &mut [u8]) -> Op
 {
     let reading = reader::read(&buffer[..n], steps);
     if reading.refusal != 0 {
-        let put = refusal_line(reading.refusal, reading.place, out);
+        let put = refusal_line(reading.refusal, reading.place.0 as u64, out);
         return Opened { reading, put };
     }
     Opened { reading, put: 0 }

@@ -91,6 +91,9 @@ enum-known-t c = search needs
 enum-told : tie.Need-enum-told Inv-loop μ-loop
 enum-told c = search needs
 
+cast-t25 : tie.Need-cast-t25 Inv-loop μ-loop
+cast-t25 c = let l = c .before .before .before .before .before .loop in omega (arith, l .inv .room)
+
 refused-requires-2 : tie.Need-refused-requires-2 Inv-loop μ-loop
 refused-requires-2 c κs = tt
 
@@ -117,6 +120,9 @@ input-count-requires c κs = tt
 
 judge-requires : tie.Need-judge-requires Inv-loop μ-loop
 judge-requires c κs = c .before .before .before .before .row-of .ensures
+
+cast-t30 : tie.Need-cast-t30 Inv-loop μ-loop
+cast-t30 c = let l = turn (found (c .before)) .loop in omega (arith, l .inv .room)
 
 refused-requires-3 : tie.Need-refused-requires-3 Inv-loop μ-loop
 refused-requires-3 c κs = tt
@@ -195,6 +201,7 @@ read-spec =
     line-of-requires
     enum-known-t
     enum-told
+    cast-t25
     refused-requires-2
     same-length
     returns-2
@@ -203,6 +210,7 @@ read-spec =
     kind-number-requires
     input-count-requires
     judge-requires
+    cast-t30
     refused-requires-3
     same-length-2
     returns-3

@@ -23,14 +23,14 @@ slice-aggregate-read c = search needs
 read-requires : tie.Need-read-requires
 read-requires c κs = search needs
 
-refusal-requires : tie.Need-refusal-requires
-refusal-requires c κs = search needs
+refusal-at-requires : tie.Need-refusal-at-requires
+refusal-at-requires c κs = search needs
 
 returns : tie.Need-returns
 returns c =
     let a = c .before .before .before .before .before .before .before .before .before .args in
     let g = c .before .before .before .before .read in
-    with-text-promise (now (a .frame)) (now (a .words)) _ _ (now (a .text)) (rw (text-refused (now (a .text)) (now (a .frame)) (length (now (a .words))) (g .result) (g .last .1 .0) (g .ensures .1) (c .before .if1 .taken)) (c .refusal .ensures, refl))
+    with-text-promise (now (a .frame)) (now (a .words)) _ _ (now (a .text)) (rw (text-refused (now (a .text)) (now (a .frame)) (length (now (a .words))) (g .result) (g .last .1 .0) (g .ensures .1) (c .before .if1 .taken)) (c .refusal-at .ensures, refl))
 
 mul-size : tie.Need-mul-size
 mul-size c = omega (arith, fits c)
@@ -59,7 +59,7 @@ run-spec =
     (tie.spec
     slice-aggregate-read
     read-requires
-    refusal-requires
+    refusal-at-requires
     returns
     mul-size
     array-share-prefix-steps

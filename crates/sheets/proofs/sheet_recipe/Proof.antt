@@ -19,24 +19,24 @@ good c = sym (c .before .bad-words .ensures) ∙ c .if1 .left
 bad-words-requires : tie.Need-bad-words-requires
 bad-words-requires c κs = search needs
 
-turned-down-requires : tie.Need-turned-down-requires
-turned-down-requires c κs = search needs
+refusal-requires : tie.Need-refusal-requires
+refusal-requires c κs = search needs
 
 returns : tie.Need-returns
 returns c =
     let a = c .before .before .before .before .before .args in
-    with-steps (now (a .bytes)) _ _ (now (a .steps)) (rw (sheet-bad (now (a .steps)) (length (now (a .bytes))) (sym (c .before .before .bad-words .ensures) ∙ c .before .if1 .taken)) (c .turned-down .ensures, refl))
+    with-steps (now (a .bytes)) _ _ (now (a .steps)) (rw (sheet-bad (now (a .steps)) (length (now (a .bytes))) (sym (c .before .before .bad-words .ensures) ∙ c .before .if1 .taken)) (c .refusal .ensures, refl))
 
 mul-if2 : tie.Need-mul-if2
 mul-if2 c = search needs
 
-turned-down-requires-2 : tie.Need-turned-down-requires-2
-turned-down-requires-2 c κs = search needs
+refusal-requires-2 : tie.Need-refusal-requires-2
+refusal-requires-2 c κs = search needs
 
 returns-2 : tie.Need-returns-2
 returns-2 c =
     let a = c .before .before .before .before .before .before .args in
-    with-steps (now (a .bytes)) _ _ (now (a .steps)) (rw (sheet-short (now (a .steps)) (length (now (a .bytes))) (good (c .before .before)) _ refl (c .before .if2 .taken)) (c .turned-down2 .ensures, refl))
+    with-steps (now (a .bytes)) _ _ (now (a .steps)) (rw (sheet-short (now (a .steps)) (length (now (a .bytes))) (good (c .before .before)) _ refl (c .before .if2 .taken)) (c .refusal2 .ensures, refl))
 
 write-sheet-requires : tie.Need-write-sheet-requires
 write-sheet-requires c κs = let w = words-count _ (good (c .before .before)) in (w .1, omega (arith, w .2), c .before .if2 .left)
@@ -54,10 +54,10 @@ sheet-recipe-spec =
     tie.close
     (tie.spec
     bad-words-requires
-    turned-down-requires
+    refusal-requires
     returns
     mul-if2
-    turned-down-requires-2
+    refusal-requires-2
     returns-2
     write-sheet-requires
     same-length

@@ -67,8 +67,11 @@ enum-known-r c = search needs
 enum-known-number : tie.Need-enum-known-number Inv-loop μ-loop Inv-loop2 μ-loop2
 enum-known-number c = search needs
 
-turned-down-requires : tie.Need-turned-down-requires Inv-loop μ-loop Inv-loop2 μ-loop2
-turned-down-requires c κs = tt
+cast-t28 : tie.Need-cast-t28 Inv-loop μ-loop Inv-loop2 μ-loop2
+cast-t28 c = omega arith
+
+refusal-at-requires : tie.Need-refusal-at-requires Inv-loop μ-loop Inv-loop2 μ-loop2
+refusal-at-requires c κs = tt
 
 returns : tie.Need-returns Inv-loop μ-loop Inv-loop2 μ-loop2
 returns c =
@@ -76,7 +79,7 @@ returns c =
     let l = c .before .before .before .before .before .before .before .before .before .before .before .loop in
     rw (
     shown-refused (now (a .steps)) (a .n) (l .ranges) (l .i) (l .inv) (omega arith) (omega arith) _ (c .before .before .before .before .before .before .before .before .before .step-at .ensures) _ _ (Doubles (record { low = nan; high = nan }))
-    (c .before .before .before .before .before .before .before .before .place-of .ensures .0) (c .before .before .before .before .before .before .before .place-of2 .ensures .0) _ (c .before .before .before .before .step-range .ensures .0) _ (c .before .before .number .given .1)) (c .turned-down .ensures, refl)
+    (c .before .before .before .before .before .before .before .before .place-of .ensures .0) (c .before .before .before .before .before .before .before .place-of2 .ensures .0) _ (c .before .before .before .before .step-range .ensures .0) _ (c .before .before .number .given .1)) (c .refusal-at .ensures, refl)
 
 mul-ranges : tie.Need-mul-ranges Inv-loop μ-loop Inv-loop2 μ-loop2
 mul-ranges c = omega arith
@@ -184,7 +187,8 @@ write-sheet-spec =
     step-range-requires
     enum-known-r
     enum-known-number
-    turned-down-requires
+    cast-t28
+    refusal-at-requires
     returns
     mul-ranges
     array-set-from-ranges

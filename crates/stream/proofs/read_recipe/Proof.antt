@@ -16,6 +16,9 @@ slice-aggregate-read c = sym (length-take-le (c .before .before .before .before 
 read-requires : tie.Need-read-requires
 read-requires c κs = search needs
 
+cast-refusal-line : tie.Need-cast-refusal-line
+cast-refusal-line c = search needs
+
 refusal-line-requires : tie.Need-refusal-line-requires
 refusal-line-requires c κs = search needs
 
@@ -27,11 +30,11 @@ same-length-2 c = search needs
 
 returns : tie.Need-returns
 returns c =
-    let a = c .before .before .before .before .before .before .before .before .before .before .before .before .before .before .args in
-    let e = c .before .before .before .before .before .before .before .before .read .ensures .1 in (
+    let a = c .before .before .before .before .before .before .before .before .before .before .before .before .before .before .before .args in
+    let e = c .before .before .before .before .before .before .before .before .before .read .ensures .1 in (
       c .before .before .refusal-line .ensures .0,
       e,
-      c .before .before .refusal-line .ensures .1 ∙ sym (read-refused (take (a .n) (now (a .buffer))) (c .before .before .before .before .before .before .before .before .read .result) (c .before .before .before .before .before .before .before .before .read .last .1 .0) e (λ l. []) (c .before .before .before .before .if1 .taken)),
+      c .before .before .refusal-line .ensures .1 ∙ sym (read-refused (take (a .n) (now (a .buffer))) (c .before .before .before .before .before .before .before .before .before .read .result) (c .before .before .before .before .before .before .before .before .before .read .last .1 .0) e (λ l. []) (c .before .before .before .before .before .if1 .taken)),
       c .before .before .refusal-line .ensures .2,
     )
 
@@ -50,6 +53,7 @@ read-recipe-spec =
     (tie.spec
     slice-aggregate-read
     read-requires
+    cast-refusal-line
     refusal-line-requires
     same-length
     same-length-2
