@@ -1,9 +1,9 @@
 // Recipes: text read to steps, or turned down with the number and the place of the first fault (document 01, "Recipe text").
 ghost use mathlib.Core.Path.{_≡_};
-ghost use Prim.Native.Nat.{_*_};
+ghost use Prim.Native.Nat.{_*_, _≤_};
 ghost use lib.ListN.{length};
 ghost use Rattle.recipe.specs.Text.{mostSteps, short, readText, badLength};
-ghost use Rattle.recipe.specs.Answer.{Says, Refused};
+ghost use Rattle.recipe.specs.Answer.{Says, Leaves, Refused};
 use checks::input_count;
 use checks::judge;
 use lines::Line;
@@ -48,11 +48,13 @@ fn refused(number: u64, place: StepNumber) -> Reading
 // zero; 14 an operand not below the step's number; 15 an operand of the wrong kind; 16 a NaN in a double input or constant, or an input
 // with P above Q; 17 a seventeenth input.
 //
-// The words are working memory: none is read, and after a refusal they may hold the steps before the fault. So this is not an entry point: the
-// calls of the crates above lend words of their own.
+// The words are working memory: none is read, none past those of the steps is written, and after a refusal they may hold the steps before the
+// fault. So this is not an entry point: the calls of the crates above lend words of their own.
 pub fn read(text: &[u8], steps: &mut [u64]) -> Reading
-    requires { ⌜ length (now steps) ≡ 3 * mostSteps ⌝ }
-    ensures { λ r. ⌜ (length (now (steps .exit)) ≡ 3 * mostSteps) × Says (readText short (now (text .entry))) r (now (steps .exit)) ⌝ }
+    requires { ⌜ 3 * mostSteps ≤ length (now steps) ⌝ }
+    ensures { λ r. ⌜ (length (now (steps .exit)) ≡ length (now (steps .entry)))
+        × Says (readText short (now (text .entry))) r (now (steps .exit))
+        × Leaves (readText short (now (text .entry))) (now (steps .entry)) (now (steps .exit)) ⌝ }
 {
     let size = text.len();
     if bad_length(size) {

@@ -4,15 +4,15 @@ use mathlib.Core.List.{List}
 use mathlib.Core.Logic.{_⊎_, ⊎-elim}
 use Prim.Native.Nat.{ℕ, _*_, _/_, _≤_, _<_}
 use native.Mathlib.Omega.{arith}
-use lib.ListN.{length, take}
+use lib.ListN.{length, take, drop}
 use lib.Seq.{take-length}
 use Rattle.recipe.specs.declared.Step.{Step}
 use Rattle.recipe.specs.declared.Reading.{Reading}
 use Rattle.recipe.specs.Text.{Form, lineLength, mostSteps, short, steps, refused, inputsIn, stepRefusal, badLength, readText}
 use Rattle.recipe.specs.Packed.{stepsIn}
-use Rattle.recipe.specs.Answer.{Says, Formed, Holds, Checked}
+use Rattle.recipe.specs.Answer.{Says, Leaves, Formed, Holds, Checked}
 use Rattle.recipe.proofs.Formed.{checked, numbered, formed-by, refused-by, inputs-so-far, says-which}
-use Rattle.recipe.proofs.Packed.{steps-length, holds-first}
+use Rattle.recipe.proofs.Packed.{steps-length, holds-first, put-steps-length, put-steps-rest}
 
 -- ---- one step
 
@@ -65,3 +65,13 @@ module _ (s : List ℕ) (r : Reading) (w : List ℕ) (g : Says (readText short s
   -- Any other answer has the text's refusal.
   pub answer-refused : (r .refusal ≡ 0 → ⊥) → readText short s ≡ refused (r .refusal) (r .place .0)
   answer-refused e = says-which (readText short s) r w (refusal-positive short s) g .1 e
+
+-- ---- the words
+
+module _ (l : List Step) (v w : List ℕ) (e : Leaves (steps l) v w) where
+  -- Reading a text that passes changes no word past its steps, and keeps their number.
+  pub rest-unwritten : (k : ℕ) → 3 * length l ≤ k → drop k w ≡ drop k v
+  rest-unwritten k h = rw e (put-steps-rest v l (length l) k h)
+
+  pub words-kept : length w ≡ length v
+  words-kept = rw e (put-steps-length v l (length l))

@@ -1,4 +1,5 @@
--- Steps in words: each is found at its place, a step more stands after the others, and a step's three words give it back. Assumes nothing.
+-- Steps in words: each is found at its place, a step more stands after the others, a step's three words give it back, and words past those of the
+-- steps stay as they are. Assumes nothing.
 use mathlib.Core.Path.{_≡_, refl, ap, sym, _∙_}
 use mathlib.Core.Bool.{false, not, _||_}
 use mathlib.Core.List.{List, [], _∷_, _++_}
@@ -9,11 +10,11 @@ use native.Mathlib.Nat.{add-mul-div-left, div-eq-of-lt}
 use native.Mathlib.Numerals.{add-one}
 use lib.Dec.{ltb, eqb}
 use lib.ListN.{length, take, drop, set, getD, length-append, length-set, drop-of-length-le, List·getD-append}
-use lib.Seq.{getD-take, getD-at, drop-cons, length-take-le, getD-set-same, getD-set-other}
+use lib.Seq.{getD-take, getD-at, drop-cons, drop-set-lt, length-take-le, getD-set-same, getD-set-other}
 use borrow.Author.Tests.{eq-eqb, ne-eqb, le-ltb, eqb-false, ltb-false}
 use Rattle.recipe.specs.declared.Step.{Step}
 use Rattle.recipe.specs.Text.{mostSteps, step, noStep, first, second}
-use Rattle.recipe.specs.Packed.{head, unpacked, stepAt, putAt, stepsIn, stepsOf, badWords}
+use Rattle.recipe.specs.Packed.{head, unpacked, stepAt, putAt, putSteps, stepsIn, stepsOf, badWords}
 use Rattle.recipe.specs.Answer.{Formed, Holds}
 use Rattle.recipe.proofs.Counts.{or-false, not-false, positive}
 
@@ -152,3 +153,35 @@ module _ (w : List ℕ) (i : ℕ) (t : Step) (fits : 3 * i + 2 < length w) where
   -- the steps before it stay, and it stands after them
   pub put-more : t .opcode < 2 ^ 8 → first t < 2 ^ 16 → second t < 2 ^ 16 → stepsIn (putAt w i t) (i + 1) ≡ stepsIn w i ++ (t ∷ [])
   put-more ho ha hb = rw (steps-more (putAt w i t) i, put-there ho ha hb, steps-same (putAt w i t) w i put-before)
+
+-- ---- several steps put into their words
+
+module _ (w : List ℕ) where
+  pub put-steps-length : (l : List Step) (n : ℕ) → length (putSteps w l n) ≡ length w
+  unfolding putSteps
+  put-steps-length l zero = refl
+  put-steps-length l (suc n) = simp length-set (put-steps-length l n)
+
+  -- the words past n steps stay as they are
+  pub put-steps-rest : (l : List Step) (n k : ℕ) → 3 * n ≤ k → drop k (putSteps w l n) ≡ drop k w
+  unfolding putSteps
+  put-steps-rest l zero k h = refl
+  put-steps-rest l (suc n) k h =
+      let t : Step = getD l n noStep in
+      let u : List ℕ = putSteps w l n in
+      drop-set-lt k (set (set u (3 * n) (head t)) (3 * n + 1) (t .p)) (3 * n + 2) (t .q) (omega arith)
+      ∙ drop-set-lt k (set u (3 * n) (head t)) (3 * n + 1) (t .p) (omega arith)
+      ∙ drop-set-lt k u (3 * n) (head t) (omega arith)
+      ∙ put-steps-rest l n k (omega arith)
+
+  -- the first n steps are all that matter
+  put-steps-first : (l : List Step) (t : Step) (n : ℕ) → n ≤ length l → putSteps w (l ++ (t ∷ [])) n ≡ putSteps w l n
+  unfolding putSteps
+  put-steps-first l t zero h = refl
+  put-steps-first l t (suc n) h =
+      rw (put-steps-first l t n (omega arith), List·getD-append l (t ∷ []) noStep n (omega arith))
+
+  -- one step more
+  pub put-steps-more : (l : List Step) (t : Step) (n : ℕ) → length l ≡ n → putSteps w (l ++ (t ∷ [])) (n + 1) ≡ putAt (putSteps w l n) n t
+  unfolding putSteps
+  put-steps-more l t n e = rw (add-one n, put-steps-first l t n (omega arith), getD-at l t [] noStep n e)

@@ -4,12 +4,12 @@ use mathlib.Core.Bool.{false, _&&_}
 use mathlib.Core.List.{List}
 use Prim.Native.Nat.{ℕ, _*_, _≤_, _<_}
 use lib.Dec.{leb}
-use lib.ListN.{length, getD, take}
+use lib.ListN.{length, getD, take, drop}
 use Rattle.recipe.specs.declared.Step.{Step}
 use Rattle.recipe.specs.declared.Reading.{Reading}
 use Rattle.recipe.specs.Table.{rowOf, isInput}
 use Rattle.recipe.specs.Text.{Text, steps, refused, mostSteps, noStep, isUnknown, unusedSet, operandAhead, wrongKind, badRange, inputsIn, stepRefusal}
-use Rattle.recipe.specs.Packed.{stepsIn, stepsOf}
+use Rattle.recipe.specs.Packed.{putSteps, stepsIn, stepsOf}
 
 -- the text has the steps l, and they stand in the first words of w
 pub record Passed (l : List Step) (r : Reading) (w : List ℕ) : Type 0 where
@@ -18,7 +18,7 @@ pub record Passed (l : List Step) (r : Reading) (w : List ℕ) : Type 0 where
   pub counted : r .count ≡ length l
   pub kept : stepsIn w (r .count) ≡ l
 
--- the answer has a refusal's number and place; what stands in the words is left free
+-- the answer has a refusal's number and place
 pub record Refused (number k : ℕ) (r : Reading) : Type 0 where
   pub numbered : r .refusal ≡ number
   pub placed : r .place .0 ≡ k
@@ -27,6 +27,12 @@ pub record Refused (number k : ℕ) (r : Reading) : Type 0 where
 abbrev pub Says : Text → Reading → List ℕ → Type 0
 Says (steps l) r w = Passed l r w
 Says (refused number k) r w = Refused number k r
+
+-- What reading the text leaves of the words v that were lent, w: the steps in the first of them and the others as they were; after a refusal
+-- at step k those from step k on are as they were, and what stands before them is left free.
+abbrev pub Leaves : Text → List ℕ → List ℕ → Type 0
+Leaves (steps l) v w = w ≡ putSteps v l (length l)
+Leaves (refused number k) v w = drop (3 * k) w ≡ drop (3 * k) v
 
 -- What is known of the steps of a text that passed: there are 1 to `most`, and each, after those before it, is refused for nothing.
 pub record Formed (most : ℕ) (l : List Step) : Type 0 where

@@ -5,7 +5,7 @@ use Prim.Native.Nat.{ℕ, zero, suc, _+_, _*_, _/_, _%_, _^_}
 use lib.Dec.{ltb, eqb}
 use lib.ListN.{length, getD, set}
 use Rattle.recipe.specs.declared.Step.{Step}
-use Rattle.recipe.specs.Text.{mostSteps, step, first, second}
+use Rattle.recipe.specs.Text.{mostSteps, step, first, second, noStep}
 
 -- the first word: opcode, A and B; P and Q are the second and the third
 abbrev pub head : Step → ℕ
@@ -21,6 +21,11 @@ stepAt w k = unpacked (getD w (3 * k) 0) (getD w (3 * k + 1) 0) (getD w (3 * k +
 -- the words w with the step t as step k
 abbrev pub putAt : List ℕ → ℕ → Step → List ℕ
 putAt w k t = set (set (set w (3 * k) (head t)) (3 * k + 1) (t .p)) (3 * k + 2) (t .q)
+
+-- the words w with the first n of the steps l as their first n
+unfoldable pub putSteps : List ℕ → List Step → ℕ → List ℕ
+putSteps w l zero = w
+putSteps w l (suc n) = putAt (putSteps w l n) n (getD l n noStep)
 
 -- the first n steps
 unfoldable pub stepsIn : List ℕ → ℕ → List Step

@@ -18,7 +18,7 @@ use Rattle.reader.proofs.read.Statement.{statement}
 use Rattle.reader.proofs.read.Tie as tie
 
 abbrev Inv-loop : tie.InvT-loop
-Inv-loop text steps₀ size n kinds₀ inputs₀ i₀ steps kinds inputs i = Going text n steps kinds inputs i
+Inv-loop text steps₀ size n kinds₀ inputs₀ i₀ steps kinds inputs i = Going text n steps₀ steps kinds inputs i
 
 abbrev μ-loop : tie.MeasureT-loop
 μ-loop text steps₀ size n kinds₀ inputs₀ i₀ steps kinds inputs i = n - i
@@ -60,7 +60,7 @@ refused-requires c κs = tt
 returns : tie.Need-returns Inv-loop μ-loop
 returns c =
     let s = c .before .before .before .before .before in
-    (s .pre, says-bad (now (s .args .text)) (now (s .args .steps)) (c .refused .result) (sym (c .before .before .bad-length .ensures) ∙ c .before .if1 .taken) (c .refused .ensures))
+    says-bad (now (s .args .text)) (now (s .args .steps)) (c .refused .result) (sym (c .before .before .bad-length .ensures) ∙ c .before .if1 .taken) (c .refused .ensures)
 
 loop-holds : tie.Need-loop-holds Inv-loop μ-loop
 loop-holds c =
@@ -98,13 +98,13 @@ refused-requires-2 : tie.Need-refused-requires-2 Inv-loop μ-loop
 refused-requires-2 c κs = tt
 
 same-length : tie.Need-same-length Inv-loop μ-loop
-same-length c = let l = c .before .before .before .before .before .before in l .loop .inv .long ∙ sym (start l .pre)
+same-length c = let l = c .before .before .before .before .before .before in l .loop .inv .long
 
 returns-2 : tie.Need-returns-2 Inv-loop μ-loop
 returns-2 c =
     let l = c .before .before .before .before .before .before in
     let x = sym (line-part _ _) ∙ told-malformed _ (sym (c .before .before .before .line-of .ensures) ∙ c .before .enum-told .given .1) in
-    (l .loop .inv .long, says-malformed (now (start l .args .text)) _ (l .loop .steps) (l .loop .kinds) (l .loop .inputs) (l .loop .i) (l .loop .inv) (c .before .before .before .before .before .loop-test .taken) x (c .refused2 .result) (c .refused2 .ensures))
+    says-malformed (now (start l .args .text)) _ (now (start l .args .steps)) (l .loop .steps) (l .loop .kinds) (l .loop .inputs) (l .loop .i) (l .loop .inv) (c .before .before .before .before .before .loop-test .taken) x (c .refused2 .result) (c .refused2 .ensures)
 
 row-of-requires : tie.Need-row-of-requires Inv-loop μ-loop
 row-of-requires c κs = tt
@@ -128,17 +128,17 @@ refused-requires-3 : tie.Need-refused-requires-3 Inv-loop μ-loop
 refused-requires-3 c κs = tt
 
 same-length-2 : tie.Need-same-length-2 Inv-loop μ-loop
-same-length-2 c = let l = turn (found (c .before .before)) in l .loop .inv .long ∙ sym (start l .pre)
+same-length-2 c = let l = turn (found (c .before .before)) in l .loop .inv .long
 
 returns-3 : tie.Need-returns-3 Inv-loop μ-loop
 returns-3 c =
     let j = c .before .before in
     let k = found j in
     let l = turn k .loop in
-    (l .inv .long, says-refused (now (start (turn k) .args .text)) _ (l .steps) (l .kinds) (l .inputs) (l .i) (l .inv) (k .before .before .before .before .before .loop-test .taken) (k .before .t .given .0 .0) (read-step k) _ (refusal j) (c .before .if2 .taken) (c .refused3 .result) (c .refused3 .ensures))
+    says-refused (now (start (turn k) .args .text)) _ (now (start (turn k) .args .steps)) (l .steps) (l .kinds) (l .inputs) (l .i) (l .inv) (k .before .before .before .before .before .loop-test .taken) (k .before .t .given .0 .0) (read-step k) _ (refusal j) (c .before .if2 .taken) (c .refused3 .result) (c .refused3 .ensures)
 
 put-step-requires : tie.Need-put-step-requires Inv-loop μ-loop
-put-step-requires c κs = let l = turn (found (c .before .before)) .loop in omega (arith, l .inv .room, l .inv .long)
+put-step-requires c κs = let l = turn (found (c .before .before)) .loop in omega (arith, l .inv .room, l .inv .wide, l .inv .long)
 
 array-write-kinds : tie.Need-array-write-kinds Inv-loop μ-loop
 array-write-kinds c = let l = turn (found (judged c)) .loop in omega (arith, l .inv .room)
@@ -161,13 +161,13 @@ loop-again c =
     let n = j .before .before .input-count in
     let x = j .before .before .before in
     let row = j .before .before .before .before .before .row-of .ensures in
-    going-more (now (start (turn k) .args .text)) _ (l .steps) (l .kinds) (l .inputs) (l .i) (l .inv)
+    going-more (now (start (turn k) .args .text)) _ (now (start (turn k) .args .steps)) (l .steps) (l .kinds) (l .inputs) (l .i) (l .inv)
     (k .before .before .before .before .before .loop-test .taken)
     (k .before .t .given .0 .0)
     (read-step k)
     (sym (refusal j) ∙ c .before .before .before .before .if2 .left)
     (p .last .0)
-    (p .kept .0)
+    (p .ensures .0)
     (p .ensures .1)
     (n .result)
     (n .ensures .0 ∙ ap (λ r. cond (isInput r) 1 0) row)
@@ -176,12 +176,12 @@ loop-again c =
     (x .kind-number .ensures ∙ ap kindNumber (x .before .answer-kind .ensures ∙ ap answerKind row))
 
 same-length-3 : tie.Need-same-length-3 Inv-loop μ-loop
-same-length-3 c = let l = c .before in l .loop .inv .long ∙ sym (start l .pre)
+same-length-3 c = let l = c .before in l .loop .inv .long
 
 returns-4 : tie.Need-returns-4 Inv-loop μ-loop
 returns-4 c =
     let l = c .before .loop in
-    (l .inv .long, says-done (now (start (c .before) .args .text)) _ (l .steps) (l .kinds) (l .inputs) (l .i) (l .inv) (c .loop-test .left))
+    says-done (now (start (c .before) .args .text)) _ (now (start (c .before) .args .steps)) (l .steps) (l .kinds) (l .inputs) (l .i) (l .inv) (c .loop-test .left)
 
 pub read-spec : {M : Type 1} → statement M
 read-spec =
