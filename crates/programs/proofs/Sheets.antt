@@ -82,7 +82,7 @@ late true y z e = refl
 late false true z e = refl
 late false false z e = e
 
-long-read : (s : List ℕ) → longest short < length s → readText short s ≡ text.refused 10 0
+pub long-read : (s : List ℕ) → longest short < length s → readText short s ≡ text.refused 10 0
 unfolding readText
 long-read s h =
     rw (late (eqb (length s) 0) (not (eqb (length s % lineLength short) 0)) (ltb (longest short) (length s)) (lt-ltb (longest short) (length s) h))

@@ -82,7 +82,7 @@ module _ (t piece : List ℕ) (n : ℕ) (buffer w : List ℕ) (end : End) (few :
               ∙ sym (append-nil line);
         }
 
-    pub fed-opened : length w ≡ 3 * mostSteps → r .refusal ≡ 0
+    pub fed-opened : 3 * mostSteps ≤ length w → r .refusal ≡ 0
         → Fed (heading t) piece line (record { stage = Frames; count = 0; steps = r .count }) buffer w
     unfolding owed
     fed-opened m h =

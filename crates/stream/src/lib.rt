@@ -42,10 +42,10 @@ struct Opened {
 
 // Reads the recipe whose text is the first n bytes of the buffer into the words, and writes its refusal line where it is refused.
 fn read_recipe(buffer: &[u8], n: usize, steps: &mut [u64], out: &mut [u8]) -> Opened
-    requires { ⌜ (n ≤ length (now buffer)) × (length (now steps) ≡ 3 * mostSteps) × (19 ≤ length (now out)) ⌝ }
+    requires { ⌜ (n ≤ length (now buffer)) × (3 * mostSteps ≤ length (now steps)) × (19 ≤ length (now out)) ⌝ }
     ensures { λ r. ⌜ (r .put ≤ 19) × Says (readText short (take n (now (buffer .entry)))) (r .reading) (now (steps .exit))
         × (take (r .put) (now (out .exit)) ≡ onRecipe (readText short (take n (now (buffer .entry)))) (λ l. []))
-        × Untouched (r .put) (now (out .entry)) (now (out .exit)) ⌝ }
+        × Untouched (r .put) (now (out .entry)) (now (out .exit)) × Untouched (3 * mostSteps) (now (steps .entry)) (now (steps .exit)) ⌝ }
 {
     let reading = reader::read(&buffer[..n], steps);
     if reading.refusal != 0 {
@@ -64,10 +64,11 @@ fn feed_recipe(
     from: usize,
     out: &mut [u8],
 ) -> Progress
-    requires { ⌜ (lookedAt ≤ length (now buffer)) × (count ≤ lookedAt) × (length (now steps) ≡ 3 * mostSteps) × (from < length (now chunk)) × (19 ≤ length (now out)) ⌝ }
+    requires { ⌜ (lookedAt ≤ length (now buffer)) × (count ≤ lookedAt) × (3 * mostSteps ≤ length (now steps)) × (from < length (now chunk)) × (19 ≤ length (now out)) ⌝ }
     ensures { λ r. ⌜ (from < r .at) × (r .at ≤ length (now (chunk .entry))) × (r .put ≤ 19) × Fed (heading (take count (now (buffer .entry))))
         (between from (r .at) (now (chunk .entry))) (take (r .put) (now (out .exit))) (r .state) (now (buffer .exit)) (now (steps .exit))
-        × Untouched (r .put) (now (out .entry)) (now (out .exit)) × Untouched lookedAt (now (buffer .entry)) (now (buffer .exit)) ⌝ }
+        × Untouched (r .put) (now (out .entry)) (now (out .exit)) × Untouched lookedAt (now (buffer .entry)) (now (buffer .exit))
+        × Untouched (3 * mostSteps) (now (steps .entry)) (now (steps .exit)) ⌝ }
 {
     let head = take_recipe(buffer, count, chunk, from);
     let n = head.count;
@@ -184,11 +185,12 @@ pub fn feed(
     from: usize,
     out: &mut [u8],
 ) -> Progress
-    requires { ⌜ Standing state (now buffer) (now steps) × (lookedAt ≤ length (now buffer)) × (length (now steps) ≡ 3 * mostSteps) × (from < length (now chunk)) × (19 ≤ length (now out)) ⌝ }
+    requires { ⌜ Standing state (now buffer) (now steps) × (lookedAt ≤ length (now buffer)) × (3 * mostSteps ≤ length (now steps)) × (from < length (now chunk)) × (19 ≤ length (now out)) ⌝ }
     ensures { λ r. ⌜ (from < r .at) × (r .at ≤ length (now (chunk .entry))) × (r .put ≤ length (now (out .entry))) × (
         (g : Reading) → Stands g state (now (buffer .entry)) (now (steps .entry)) →
         Fed g (between from (r .at) (now (chunk .entry))) (take (r .put) (now (out .exit))) (r .state) (now (buffer .exit)) (now (steps .exit)))
-        × Untouched (r .put) (now (out .entry)) (now (out .exit)) × Untouched lookedAt (now (buffer .entry)) (now (buffer .exit)) ⌝ }
+        × Untouched (r .put) (now (out .entry)) (now (out .exit)) × Untouched lookedAt (now (buffer .entry)) (now (buffer .exit))
+        × Untouched (3 * mostSteps) (now (steps .entry)) (now (steps .exit)) ⌝ }
 {
     let stage = state.stage;
     match stage {
@@ -204,10 +206,10 @@ pub fn feed(
 
 // Writes what is due where the input ends, and answers how many bytes that is.
 pub fn finish(state: State, buffer: &[u8], steps: &mut [u64], out: &mut [u8]) -> usize
-    requires { ⌜ Standing state (now buffer) (now steps) × (lookedAt ≤ length (now buffer)) × (length (now steps) ≡ 3 * mostSteps) × (19 ≤ length (now out)) ⌝ }
+    requires { ⌜ Standing state (now buffer) (now steps) × (lookedAt ≤ length (now buffer)) × (3 * mostSteps ≤ length (now steps)) × (19 ≤ length (now out)) ⌝ }
     ensures { λ r. ⌜ (r ≤ length (now (out .entry))) × (
         (g : Reading) → Stands g state (now (buffer .entry)) (now (steps .entry)) → Finished g (take r (now (out .exit))))
-        × Untouched r (now (out .entry)) (now (out .exit)) ⌝ }
+        × Untouched r (now (out .entry)) (now (out .exit)) × Untouched (3 * mostSteps) (now (steps .entry)) (now (steps .exit)) ⌝ }
 {
     let stage = state.stage;
     let n = state.count;

@@ -1,6 +1,6 @@
 -- `main` is safe and ends, and follows a course: the chunk is fed up to the place, with what `feed` put out handed to `write`, and it is used up
 -- before the next one is read. The buffers and the words keep their lengths. The measure is the turns left. Assumes nothing.
-use mathlib.Core.Path.{_≡_, _∙_, sym}
+use mathlib.Core.Path.{_≡_, sym}
 use Prim.Native.Nat.{_*_, _≤_}
 use native.Mathlib.Omega.{arith}
 use lib.ListN.{length, take}

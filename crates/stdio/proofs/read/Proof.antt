@@ -1,5 +1,5 @@
 -- `read` is safe and ends, and counts bytes of the buffer. The measure is the turns left. Assumes nothing.
-use mathlib.Core.Path.{_≡_, refl, _∙_}
+use mathlib.Core.Path.{_≡_}
 use native.Mathlib.Omega.{arith}
 use lib.ListN.{length}
 use borrow.Author.Needs.{needs}

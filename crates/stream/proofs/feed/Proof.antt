@@ -51,6 +51,7 @@ returns c =
       λ g k. fed-at-recipe _ _ (a .state) (c .before .before .before .before .before .before .feed-recipe .result .state) (now (a .buffer)) (now (a .steps)) (c .before .before .before .before .before .before .feed-recipe .last .0) (c .before .before .before .before .before .before .feed-recipe .last .1 .1 .0) g k (c .before .before .before .before .before .before .before .before .before .before .enum-told .given .1) (r .3),
       r .4,
       r .5,
+      r .6,
     )
 
 same-length-4 : tie.Need-same-length-4
@@ -72,12 +73,13 @@ returns-2 c =
       λ g k. fed-at-frames _ _ (a .state) (c .before .before .before .before .feed-frames .result .state) (now (a .buffer)) (now (a .steps)) (c .before .before .before .before .feed-frames .last .1 .0) (now (a .steps)) g k (c .before .before .before .before .before .before .before .before .enum-told2 .given .1) (r .3),
       r .4,
       untouched-later (now (a .buffer)) (c .before .before .before .before .feed-frames .last .1 .0) 256 lookedAt (omega arith) (r .5),
+      refl,
     )
 
 returns-3 : tie.Need-returns-3
 returns-3 c =
     let a = c .before .before .before .before .before .before .args in
-    (c .before .before .before .before .before .before .pre .3, omega arith, omega arith, λ g k. fed-at-done _ (a .state) (now (a .buffer)) (now (a .steps)) g k (c .enum-told3 .given .1), refl, refl)
+    (c .before .before .before .before .before .before .pre .3, omega arith, omega arith, λ g k. fed-at-done _ (a .state) (now (a .buffer)) (now (a .steps)) g k (c .enum-told3 .given .1), refl, refl, refl)
 
 pub feed-spec : {M : Type 1} → statement M
 feed-spec =

@@ -1,5 +1,5 @@
 -- `feed_recipe` meets its contract, by what `take_recipe` found and by the recipe's refusal. Assumes nothing.
-use mathlib.Core.Path.{refl, _∙_}
+use mathlib.Core.Path.{refl}
 use native.Mathlib.Omega.{arith}
 use lib.ListN.{take}
 use denote.Ref.{now}
@@ -43,6 +43,7 @@ returns c =
       fed-refused (take (a .count) (now (a .buffer))) _ (h .count) (c .before .before .before .before .before .before .before .before .before .before .before .before .before .before .before .take-recipe .last .0) (c .before .before .before .before .before .before .before .read-recipe .last .1 .1 .0) (h .end) (e .2) (e .3) (c .before .before .before .before .before .before .before .read-recipe .result .reading) _ (c .before .before .before .before .before .before .before .before .before .before .before .enum-told2 .given .1) (r .1) (r .2) (c .if1 .taken),
       r .3,
       untouched-later (now (a .buffer)) _ (h .count) lookedAt (e .2) (e .4),
+      r .4,
     )
 
 enum-told-3 : tie.Need-enum-told-3
@@ -65,6 +66,7 @@ returns-2 c =
       fed-missing (take (a .count) (now (a .buffer))) _ (h .count) (c .before .before .before .before .take-recipe .last .0) (now (a .steps)) (h .end) (e .2) (e .3) (c .enum-told .given .1),
       refl,
       untouched-later (now (a .buffer)) _ (h .count) lookedAt (e .2) (e .4),
+      refl,
     )
 
 same-length-5 : tie.Need-same-length-5
@@ -85,9 +87,10 @@ returns-3 c =
       e .0,
       e .1,
       r .0,
-      fed-opened (take (a .count) (now (a .buffer))) _ (h .count) (c .before .before .before .before .before .before .before .before .before .before .before .before .before .before .before .take-recipe .last .0) (c .before .before .before .before .before .before .before .read-recipe .last .1 .1 .0) (h .end) (e .2) (e .3) (c .before .before .before .before .before .before .before .read-recipe .result .reading) _ (c .before .before .before .before .before .before .before .before .before .before .before .enum-told2 .given .1) (r .1) (r .2) (c .before .before .before .before .before .before .before .read-recipe .kept .1 .1 .0 ∙ c .before .before .before .before .before .before .before .before .before .before .before .before .before .before .before .before .before .before .before .before .before .pre .2) (c .if1 .left),
+      fed-opened (take (a .count) (now (a .buffer))) _ (h .count) (c .before .before .before .before .before .before .before .before .before .before .before .before .before .before .before .take-recipe .last .0) (c .before .before .before .before .before .before .before .read-recipe .last .1 .1 .0) (h .end) (e .2) (e .3) (c .before .before .before .before .before .before .before .read-recipe .result .reading) _ (c .before .before .before .before .before .before .before .before .before .before .before .enum-told2 .given .1) (r .1) (r .2) (omega (arith, c .before .before .before .before .before .before .before .read-recipe .kept .1 .1 .0, c .before .before .before .before .before .before .before .before .before .before .before .before .before .before .before .before .before .before .before .before .before .pre .2)) (c .if1 .left),
       r .3,
       untouched-later (now (a .buffer)) _ (h .count) lookedAt (e .2) (e .4),
+      r .4,
     )
 
 same-length-8 : tie.Need-same-length-8
@@ -107,6 +110,7 @@ returns-4 c =
       fed-endless (take (a .count) (now (a .buffer))) _ (h .count) (c .before .before .before .before .before .before .before .before .take-recipe .last .0) (now (a .steps)) (h .end) (e .2) (e .3) _ (c .before .before .before .before .enum-told3 .given .1) (c .before .before .refusal-line .ensures .1),
       c .before .before .refusal-line .ensures .2,
       untouched-later (now (a .buffer)) _ (h .count) lookedAt (e .2) (e .4),
+      refl,
     )
 
 pub feed-recipe-spec : {M : Type 1} → statement M

@@ -26,7 +26,7 @@ returns : tie.Need-returns
 returns c =
     let a = c .before .before .before .before .before .before .args in
     let z : a .state .count ≡ 0 = omega (arith, c .if1 .taken) in
-    (omega arith, λ g k. finished-between (a .state) (now (a .buffer)) (now (a .steps)) g k (c .before .enum-told2 .given .1) z, refl)
+    (omega arith, λ g k. finished-between (a .state) (now (a .buffer)) (now (a .steps)) g k (c .before .enum-told2 .given .1) z, refl, refl)
 
 mul-end : tie.Need-mul-end
 mul-end c =
@@ -63,7 +63,7 @@ returns-2 : tie.Need-returns-2
 returns-2 c =
     let a = c .before .before .before .before .before .before .before .before .before .before .before .before .args in
     let o = c .before .before .before .before .before .before .before .before .before .before .before .before .pre .3 in
-    (omega (arith, c .before .before .before .before .read-recipe .ensures .0), λ g k. finished-recipe (a .state) (now (a .buffer)) (now (a .steps)) _ g k (c .before .before .before .before .before .before .before .enum-told .given .1) (c .before .before .before .before .read-recipe .ensures .2), c .before .before .before .before .read-recipe .ensures .3)
+    (omega (arith, c .before .before .before .before .read-recipe .ensures .0), λ g k. finished-recipe (a .state) (now (a .buffer)) (now (a .steps)) _ g k (c .before .before .before .before .before .before .before .enum-told .given .1) (c .before .before .before .before .read-recipe .ensures .2), c .before .before .before .before .read-recipe .ensures .3, c .before .before .before .before .read-recipe .ensures .4)
 
 same-length-3 : tie.Need-same-length-3
 same-length-3 c = search needs
@@ -80,12 +80,13 @@ returns-3 c =
       omega (arith, c .before .before .kept-line .ensures .0),
       λ g k. finished-line (a .state) (now (a .buffer)) (now (a .steps)) _ g k (c .before .before .before .before .before .before .before .enum-told2 .given .1) z (omega arith) (c .before .before .kept-line .ensures .1),
       c .before .before .kept-line .ensures .2,
+      refl,
     )
 
 returns-4 : tie.Need-returns-4
 returns-4 c =
     let a = c .before .before .before .before .before .args in
-    (omega arith, λ g k. finished-done (a .state) (now (a .buffer)) (now (a .steps)) g k (c .enum-told3 .given .1), refl)
+    (omega arith, λ g k. finished-done (a .state) (now (a .buffer)) (now (a .steps)) g k (c .enum-told3 .given .1), refl, refl)
 
 pub finish-spec : {M : Type 1} → statement M
 finish-spec =

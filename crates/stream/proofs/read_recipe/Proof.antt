@@ -7,6 +7,7 @@ use lib.Seq.{length-take-le}
 use denote.Ref.{now}
 use borrow.Author.Needs.{needs}
 use Rattle.programs.proofs.Stages.{read-refused, read-passed}
+use Rattle.programs.proofs.Words.{words-untouched}
 use Rattle.stream.proofs.read_recipe.Statement.{statement}
 use Rattle.stream.proofs.read_recipe.Tie as tie
 
@@ -36,6 +37,7 @@ returns c =
       e,
       c .before .before .refusal-line .ensures .1 ∙ sym (read-refused (take (a .n) (now (a .buffer))) (c .before .before .before .before .before .before .before .before .before .read .result) (c .before .before .before .before .before .before .before .before .before .read .last .1 .0) e (λ l. []) (c .before .before .before .before .before .if1 .taken)),
       c .before .before .refusal-line .ensures .2,
+      words-untouched (take (a .n) (now (a .buffer))) (now (a .steps)) (c .before .before .before .before .before .before .before .before .before .read .last .1 .0) (c .before .before .before .before .before .before .before .before .before .read .ensures .2),
     )
 
 same-length-3 : tie.Need-same-length-3
@@ -45,7 +47,7 @@ returns-2 : tie.Need-returns-2
 returns-2 c =
     let a = c .before .before .before .before .before .before .before .before .before .before .args in
     let e = c .before .before .before .before .read .ensures .1 in
-    (omega arith, e, sym (read-passed (take (a .n) (now (a .buffer))) (c .before .before .before .before .read .result) (c .before .before .before .before .read .last .1 .0) e (λ l. []) (c .if1 .left)), refl)
+    (omega arith, e, sym (read-passed (take (a .n) (now (a .buffer))) (c .before .before .before .before .read .result) (c .before .before .before .before .read .last .1 .0) e (λ l. []) (c .if1 .left)), refl, words-untouched (take (a .n) (now (a .buffer))) (now (a .steps)) (c .before .before .before .before .read .last .1 .0) (c .before .before .before .before .read .ensures .2))
 
 pub read-recipe-spec : {M : Type 1} → statement M
 read-recipe-spec =
