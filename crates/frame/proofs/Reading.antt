@@ -2,10 +2,10 @@
 -- is the definition of the rest at the loop's present state; a good turn keeps it, and a refused turn and the end give the answer. Assumes
 -- nothing.
 use mathlib.Core.Path.{_≡_, refl, ap, sym, _∙_}
-use mathlib.Core.Bool.{true, false, cond}
+use mathlib.Core.Bool.{Bool, true, false, cond}
 use mathlib.Core.List.{List, [], _∷_, _++_}
 use mathlib.Core.Logic.{_⊎_, ⊎-elim}
-use Prim.Native.Nat.{ℕ, suc, _+_, _-_, _*_, _≤_, _<_}
+use Prim.Native.Nat.{ℕ, suc, _+_, _-_, _*_, _%_, _^_, _≤_, _<_}
 use native.Mathlib.Omega.{arith}
 use native.Mathlib.Numerals.{add-one}
 use lib.ListN.{length, take, drop, set, getD, replicate, length-set, getD-replicate, List·getD-eq-default}
@@ -37,6 +37,11 @@ pub record Counting (w : List ℕ) (n next i : ℕ) : Type 0 where
 pub counting-start : (w : List ℕ) (n : ℕ) → Counting w n 0 0
 unfolding inputsIn stepsIn
 counting-start w n = record { within = omega arith; few = omega arith; counted = refl }
+
+-- among so few steps the inputs' numbers do not wrap
+pub next-is : (b : Bool) (next m : ℕ) → next < 65535 → m ≡ (cond b 1 0 + next) % 2 ^ 16 → (m ≡ cond b 1 0 + next) × (m ≤ next + 1)
+next-is true next m h e = (omega arith, omega arith)
+next-is false next m h e = (omega arith, omega arith)
 
 pub counting-more : (w : List ℕ) (n next i : ℕ) → Counting w n next i → i < n → (t : Step) → t ≡ stepAt w i → (m : ℕ)
     → m ≡ cond (isInput (rowOf (t .opcode))) 1 0 + next → m ≤ next + 1 → Counting w n m (i + 1)

@@ -2,7 +2,7 @@
 ghost use mathlib.Core.Path.{_≡_};
 ghost use mathlib.Core.Bool.{cond};
 ghost use mathlib.Core.List.{List, []};
-ghost use Prim.Native.Nat.{ℕ, _+_, _*_, _≤_, _<_};
+ghost use Prim.Native.Nat.{ℕ, _+_, _*_, _%_, _^_, _≤_};
 ghost use lib.ListN.{length};
 ghost use Rattle.recipe.specs.Table.{rowOf, isInput};
 ghost use Rattle.recipe.specs.Text.{mostSteps, inputsIn};
@@ -29,13 +29,13 @@ pub struct Inputs {
     pub malformed: bool,
 }
 
-// The number of the next input after a step with this opcode: the one after n where the step is an input, else still n.
+// The number of the next input after a step with this opcode: the one after n where the step is an input, else still n. Numbers have 16 bits and
+// wrap, at a number of steps that no recipe has.
 pub fn next_input(n: InputNumber, opcode: u8) -> InputNumber
-    requires { ⌜ n .0 < 65535 ⌝ }
-    ensures { λ r. ⌜ (r .0 ≡ cond (isInput (rowOf opcode)) 1 0 + n .0) × (r .0 ≤ n .0 + 1) ⌝ }
+    ensures { λ r. ⌜ r .0 ≡ (cond (isInput (rowOf opcode)) 1 0 + n .0) % 2 ^ 16 ⌝ }
 {
     if declares_input(opcode) {
-        return InputNumber(n.0 + 1);
+        return InputNumber(((n.0 as u32 + 1) % 0x1_0000) as u16);
     }
     n
 }

@@ -5,7 +5,8 @@ use Prim.Native.Nat.{_-_}
 use native.Mathlib.Omega.{arith}
 use lib.ListN.{length, getD}
 use denote.Ref.{now}
-use Rattle.frame.proofs.Reading.{word-at, Checking, checking-start, checking-more, checking-bad, checking-done}
+use Rattle.recipe.specs.Table.{rowOf, isInput}
+use Rattle.frame.proofs.Reading.{next-is, word-at, Checking, checking-start, checking-more, checking-bad, checking-done}
 use borrow.Author.Needs.{needs}
 use Rattle.frame.proofs.check_ranges.Statement.{statement}
 use Rattle.frame.proofs.check_ranges.Tie as tie
@@ -51,7 +52,7 @@ returns c =
     checking-bad (now (a .steps)) (a .n) (a .t3 .words) (l .next .0) (l .i) (l .inv) (omega arith) _ (c .before .before .before .before .step-at .ensures) _ (fetched (c .before .before)) (sym (c .before .is-refused .ensures) ∙ c .if2 .taken)
 
 next-input-requires : tie.Need-next-input-requires Inv-loop μ-loop
-next-input-requires c κs = omega arith
+next-input-requires c κs = tt
 
 add-i : tie.Need-add-i Inv-loop μ-loop
 add-i c = omega arith
@@ -63,7 +64,8 @@ loop-again : tie.Need-loop-again Inv-loop μ-loop
 loop-again c =
     let a = c .before .before .before .before .before .before .before .before .before .args in
     let l = c .before .before .before .before .before .before .before .loop in
-    checking-more (now (a .steps)) (a .n) (a .t3 .words) (l .next .0) (l .i) (l .inv) (omega arith) _ (c .before .before .before .before .before .step-at .ensures) _ (fetched (c .before .before .before)) (sym (c .before .before .is-refused .ensures) ∙ c .before .if2 .left) _ (c .next-input .ensures .0) (c .next-input .ensures .1)
+    let next = next-is (isInput (rowOf (c .before .before .before .before .before .step-at .result .opcode))) (l .next .0) _ (omega arith) (c .next-input .ensures) in
+    checking-more (now (a .steps)) (a .n) (a .t3 .words) (l .next .0) (l .i) (l .inv) (omega arith) _ (c .before .before .before .before .before .step-at .ensures) _ (fetched (c .before .before .before)) (sym (c .before .before .is-refused .ensures) ∙ c .before .if2 .left) _ (next .0) (next .1)
 
 returns-2 : tie.Need-returns-2 Inv-loop μ-loop
 returns-2 c =

@@ -3,7 +3,8 @@ use mathlib.Core.Path.{_≡_}
 use Prim.Native.Nat.{_-_}
 use native.Mathlib.Omega.{arith}
 use denote.Ref.{now}
-use Rattle.frame.proofs.Reading.{Counting, counting-start, counting-more}
+use Rattle.recipe.specs.Table.{rowOf, isInput}
+use Rattle.frame.proofs.Reading.{next-is, Counting, counting-start, counting-more}
 use Rattle.frame.proofs.input_total.Statement.{statement}
 use Rattle.frame.proofs.input_total.Tie as tie
 
@@ -20,7 +21,7 @@ step-at-requires : tie.Need-step-at-requires Inv-loop μ-loop
 step-at-requires c κs = omega arith
 
 next-input-requires : tie.Need-next-input-requires Inv-loop μ-loop
-next-input-requires c κs = omega arith
+next-input-requires c κs = tt
 
 add-i : tie.Need-add-i Inv-loop μ-loop
 add-i c = omega arith
@@ -32,7 +33,8 @@ loop-again : tie.Need-loop-again Inv-loop μ-loop
 loop-again c =
     let a = c .before .before .before .before .before .args in
     let l = c .before .before .before .loop in
-    counting-more (now (a .steps)) (a .n) (l .next .0) (l .i) (l .inv) (omega arith) _ (c .before .step-at .ensures) _ (c .next-input .ensures .0) (c .next-input .ensures .1)
+    let next = next-is (isInput (rowOf (c .before .step-at .result .opcode))) (l .next .0) _ (omega arith) (c .next-input .ensures) in
+    counting-more (now (a .steps)) (a .n) (l .next .0) (l .i) (l .inv) (omega arith) _ (c .before .step-at .ensures) _ (next .0) (next .1)
 
 cast-result : tie.Need-cast-result Inv-loop μ-loop
 cast-result c = omega arith

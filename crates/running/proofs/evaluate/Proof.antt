@@ -10,7 +10,8 @@ use lib.ListN.{length, take, drop, getD}
 use denote.Ref.{now}
 use Rattle.values.specs.declared.Value.the-variants.{Double}
 use Rattle.semantics.proofs.Lists.{copy-more, copied-length}
-use Rattle.frame.proofs.Reading.{word-at}
+use Rattle.recipe.specs.Table.{rowOf, isInput}
+use Rattle.frame.proofs.Reading.{next-is, word-at}
 use Rattle.running.proofs.Running.{word, Going, going-start, going-more, going-refused, going-done, fetch-real, fetch-end, written}
 use borrow.Author.Needs.{needs}
 use Rattle.running.proofs.evaluate.Statement.{statement}
@@ -103,7 +104,7 @@ array-set-from-values : tie.Need-array-set-from-values Inv-loop μ-loop Inv-loop
 array-set-from-values c = omega arith
 
 next-input-requires : tie.Need-next-input-requires Inv-loop μ-loop Inv-loop2 μ-loop2
-next-input-requires c κs = omega arith
+next-input-requires c κs = tt
 
 add-i : tie.Need-add-i Inv-loop μ-loop Inv-loop2 μ-loop2
 add-i c = omega arith
@@ -115,8 +116,9 @@ loop-again : tie.Need-loop-again Inv-loop μ-loop Inv-loop2 μ-loop2
 loop-again c =
     let a = c .before .before .before .before .before .before .before .before .before .before .before .before .before .before .before .before .args in
     let l = c .before .before .before .before .before .before .before .before .before .before .before .before .before .loop in
+    let next = next-is (isInput (rowOf (c .before .before .before .before .before .before .before .before .before .before .before .step-at .result .opcode))) (l .next .0) _ (omega arith) (c .next-input .ensures) in
     going-more (now (a .steps)) (a .n) (a .t3 .words) (l .values) (l .next .0) (l .i) (l .inv) (omega arith) (omega arith) _ (c .before .before .before .before .before .before .before .before .before .before .before .step-at .ensures) _ (fetched (c .before .before .before .before .before .before .before .before .before)) _ _ (Double nan)
-    (c .before .before .before .before .before .before .before .before .place-of .ensures .0) (c .before .before .before .before .before .before .before .place-of2 .ensures .0) _ (c .before .before .before .before .step-value .ensures .0) _ (c .before .before .v .given .1) (c .before .before .before .before .step-value .ensures .1) _ (c .next-input .ensures .0) (c .next-input .ensures .1)
+    (c .before .before .before .before .before .before .before .before .place-of .ensures .0) (c .before .before .before .before .before .before .before .place-of2 .ensures .0) _ (c .before .before .before .before .step-value .ensures .0) _ (c .before .before .v .given .1) (c .before .before .before .before .step-value .ensures .1) _ (next .0) (next .1)
 
 loop2-holds : tie.Need-loop2-holds Inv-loop μ-loop Inv-loop2 μ-loop2
 loop2-holds c = (omega arith, refl)
