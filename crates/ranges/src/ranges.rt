@@ -13,7 +13,7 @@ use values::Value;
 
 impl Range {
     // From one value to another of its kind. Of two kinds, which no rule gives, zero to zero.
-    pub fn of(low: Value, high: Value) -> Range
+    pub(crate) fn of(low: Value, high: Value) -> Range
         requires { ⌜ Real low × Real high ⌝ }
         ensures { λ r. ⌜ (seenRange r ≡ spanned (seen low) (seen high)) × RealRange r ⌝ }
     {
@@ -30,7 +30,7 @@ impl Range {
     }
 
     // As an operand that is a double: the patterns of its ends.
-    pub fn low(self) -> u64
+    pub(crate) fn low(self) -> u64
         requires { ⌜ RealRange self ⌝ }
         ensures { λ r. ⌜ r ≡ low (seenRange self) ⌝ }
     {
@@ -40,7 +40,7 @@ impl Range {
         }
     }
 
-    pub fn high(self) -> u64
+    pub(crate) fn high(self) -> u64
         requires { ⌜ RealRange self ⌝ }
         ensures { λ r. ⌜ r ≡ high (seenRange self) ⌝ }
     {
@@ -51,7 +51,7 @@ impl Range {
     }
 
     // As an operand that is a whole number: its ends.
-    pub fn least(self) -> i64
+    pub(crate) fn least(self) -> i64
         ensures { λ r. ⌜ r ≡ least (seenRange self) ⌝ }
     {
         match self {
@@ -60,7 +60,7 @@ impl Range {
         }
     }
 
-    pub fn most(self) -> i64
+    pub(crate) fn most(self) -> i64
         ensures { λ r. ⌜ r ≡ most (seenRange self) ⌝ }
     {
         match self {

@@ -11,7 +11,7 @@ use twos_complement::word;
 
 impl Value {
     // The double of a pattern, and +0 for a NaN, which no step comes to.
-    pub fn real(x: u64) -> Value
+    pub(crate) fn real(x: u64) -> Value
         ensures { λ r. ⌜ (seen r ≡ real x) × Real r ⌝ }
     {
         let y = if Binary64::is_nan(x) { 0 } else { x };
@@ -19,7 +19,7 @@ impl Value {
     }
 
     // As an operand that is a double: its pattern.
-    pub fn double(self) -> u64
+    pub(crate) fn double(self) -> u64
         requires { ⌜ Real self ⌝ }
         ensures { λ r. ⌜ r ≡ asDouble (seen self) ⌝ }
     {
@@ -30,7 +30,7 @@ impl Value {
     }
 
     // As an operand that is a whole number.
-    pub fn whole(self) -> i64
+    pub(crate) fn whole(self) -> i64
         ensures { λ r. ⌜ r ≡ asWhole (seen self) ⌝ }
     {
         match self {

@@ -23,7 +23,7 @@ pub struct Answer {
 
 impl Answer {
     // To a line that is malformed, and to a function or a width that is not known.
-    pub fn unknown() -> Answer
+    pub(crate) fn unknown() -> Answer
         ensures { λ r. ⌜ r ≡ unknownAnswer ⌝ }
     {
         Answer {
@@ -34,7 +34,7 @@ impl Answer {
     }
 
     // One pattern, and no refusal.
-    pub fn pattern(x: u64) -> Answer
+    pub(crate) fn pattern(x: u64) -> Answer
         ensures { λ r. ⌜ r ≡ patternAnswer x ⌝ }
     {
         Answer {
@@ -45,7 +45,7 @@ impl Answer {
     }
 
     // A refusal's number and the word returned.
-    pub fn refusable(refusal: u64, word: u64) -> Answer
+    pub(crate) fn refusable(refusal: u64, word: u64) -> Answer
         ensures { λ r. ⌜ r ≡ words refusal word 0 ⌝ }
     {
         Answer {
@@ -56,7 +56,7 @@ impl Answer {
     }
 
     // Two patterns, and no refusal.
-    pub fn parts(whole: u64, fraction: u64) -> Answer
+    pub(crate) fn parts(whole: u64, fraction: u64) -> Answer
         ensures { λ r. ⌜ r ≡ words 0 whole fraction ⌝ }
     {
         Answer {
@@ -67,7 +67,7 @@ impl Answer {
     }
 
     // A pattern and an exponent.
-    pub fn scaled(fraction: u64, exponent: i64) -> Answer
+    pub(crate) fn scaled(fraction: u64, exponent: i64) -> Answer
         ensures { λ r. ⌜ r ≡ words 0 fraction (ofZ w64 exponent) ⌝ }
     {
         let second = word(exponent);
@@ -75,14 +75,14 @@ impl Answer {
     }
 
     // The number of a class.
-    pub fn class(c: Class) -> Answer
+    pub(crate) fn class(c: Class) -> Answer
         ensures { λ r. ⌜ r ≡ patternAnswer (classNumber c) ⌝ }
     {
         Self::pattern(c.number() as u64)
     }
 
     // What lround answers.
-    pub fn integer(n: Integer) -> Answer
+    pub(crate) fn integer(n: Integer) -> Answer
         ensures { λ r. ⌜ r ≡ wholeAnswer (refusalOf n) (valueOf n) ⌝ }
     {
         let first = word(n.value());
@@ -94,7 +94,7 @@ impl Answer {
     }
 
     // Fills a line of output.
-    pub fn format(self, line: &mut [u8])
+    pub(crate) fn format(self, line: &mut [u8])
         requires { ⌜ length (now line) ≡ 37 ⌝ }
         ensures { λ _. ⌜ now (line .exit) ≡ lineOf self ⌝ }
     {

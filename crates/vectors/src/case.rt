@@ -49,7 +49,7 @@ fn separated(line: &[u8]) -> bool
 }
 
 // The case of a line.
-pub fn parse(line: &[u8]) -> Parsed
+pub(crate) fn parse(line: &[u8]) -> Parsed
     requires { ⌜ length (now line) ≡ 40 ⌝ }
     ensures { λ r. ⌜ r ≡ caseOf (now (line .entry)) ⌝ }
 {
@@ -78,7 +78,7 @@ pub fn parse(line: &[u8]) -> Parsed
 
 impl Case {
     // What the function answers.
-    pub fn answer(self) -> Answer
+    pub(crate) fn answer(self) -> Answer
         ensures { λ r. ⌜ r ≡ answerOf self ⌝ }
     {
         let width = self.width;
