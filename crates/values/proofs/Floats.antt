@@ -6,7 +6,7 @@ use Prim.Native.Nat.{ℕ, _^_, _<_}
 use native.Mathlib.Omega.{arith}
 use lib.Dec.{T}
 use lib.Ieee as Ieee
-use lib.Ieee.Bits.{nanBits-is, nanBits-above, toBits-ofBits}
+use lib.Ieee.Bits.{nanBits-is, nanBits-above, toBits-ofBits, ofBits-toBits}
 use Rattle.float_format.specs.Format.{binary64, isNan}
 use Rattle.float_format.proofs.Patterns.{nan-is}
 use Rattle.semantics.specs.Value.{double}
@@ -24,6 +24,14 @@ module _ (x : ℕ) (n : isNan binary64 x ≡ false) where
 
   pub same-bits : x < 2 ^ 64 → Ieee.toBits Ieee.binary64 (Ieee.ofBits Ieee.binary64 x) ≡ x
   same-bits h = toBits-ofBits Ieee.binary64 x (omega arith) float-real
+
+-- a float that the language holds, of the pattern y
+module _ (v : Ieee.Float) (y : ℕ) (h : Ieee.fits Ieee.binary64 v ≡ true) (e : Ieee.toBits Ieee.binary64 v ≡ y) (n : isNan binary64 y ≡ false) where
+  pub held-real : T (not (Ieee.isNan v))
+  held-real = rw (sym (ofBits-toBits Ieee.binary64 v (rw h tt)), e) (float-real y n)
+
+  pub held-is : double (Ieee.toBits Ieee.binary64 v) ≡ real y
+  held-is = rw (e, n)
 
 -- what `Value::real` carries: the pattern y, picked by the test t
 pub record Picked (x y : ℕ) : Type 0 where

@@ -19,6 +19,7 @@ use float_format::Binary64;
 use float_format::width::encoded;
 use recipe::Step;
 use rounding::binary64;
+use splitting::Modf64;
 use twos_complement::signed;
 
 // ---- whole numbers by their magnitudes
@@ -82,6 +83,16 @@ pub fn whole_of(z: i64) -> Outcome
     ensures { λ r. ⌜ (outcomeOf r ≡ done (whole z)) × RealOutcome r ⌝ }
 {
     Outcome::Done(Value::Whole(z))
+}
+
+// 15: the fraction of modf's pair, which is a float already.
+fn fraction_of(x: u64) -> Outcome
+    ensures { λ r. ⌜ (outcomeOf r ≡ done (real (modfFraction binary64 x))) × RealOutcome r ⌝ }
+{
+    match splitting::binary64::modf(x) {
+        Modf64::Parts(parts) => Outcome::Done(Value::Double(parts.fraction)),
+        Modf64::NotANumber(pattern) => real_of(pattern),
+    }
 }
 
 // 18
@@ -189,7 +200,7 @@ pub fn step_value(t: Step, w: u64, a: Value, b: Value) -> Outcome
         0x12 => real_of(binary64::trunc(x)),
         0x13 => real_of(binary64::round(x)),
         0x14 => real_of(binary64::nearbyint(x)),
-        0x15 => real_of(fraction_of(x)),
+        0x15 => fraction_of(x),
         0x16 => real_of(Binary64::fabs(x)),
         0x17 => real_of(Binary64::negate(x)),
         0x18 => lround_of(x),
@@ -202,12 +213,4 @@ pub fn step_value(t: Step, w: u64, a: Value, b: Value) -> Outcome
         0x32 => double_of(m),
         _ => whole_of(0),
     }
-}
-
-// 15: modf's fraction.
-fn fraction_of(x: u64) -> u64
-    ensures { λ r. ⌜ r ≡ modfFraction binary64 x ⌝ }
-{
-    let parts = splitting::binary64::modf_patterns(x);
-    parts.fraction
 }

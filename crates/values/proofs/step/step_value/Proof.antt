@@ -100,20 +100,17 @@ real-of-requires-7 c κs = search needs
 fraction-of-requires : tie.Need-fraction-of-requires
 fraction-of-requires c κs = search needs
 
-real-of-requires-8 : tie.Need-real-of-requires-8
-real-of-requires-8 c κs = search needs
-
 fabs-requires : tie.Need-fabs-requires
 fabs-requires c κs = search needs
 
-real-of-requires-9 : tie.Need-real-of-requires-9
-real-of-requires-9 c κs = search needs
+real-of-requires-8 : tie.Need-real-of-requires-8
+real-of-requires-8 c κs = search needs
 
 negate-requires : tie.Need-negate-requires
 negate-requires c κs = search needs
 
-real-of-requires-10 : tie.Need-real-of-requires-10
-real-of-requires-10 c κs = search needs
+real-of-requires-9 : tie.Need-real-of-requires-9
+real-of-requires-9 c κs = search needs
 
 lround-of-requires : tie.Need-lround-of-requires
 lround-of-requires c κs = search needs
@@ -121,14 +118,14 @@ lround-of-requires c κs = search needs
 fmin-requires : tie.Need-fmin-requires
 fmin-requires c κs = search needs
 
-real-of-requires-11 : tie.Need-real-of-requires-11
-real-of-requires-11 c κs = search needs
+real-of-requires-10 : tie.Need-real-of-requires-10
+real-of-requires-10 c κs = search needs
 
 fmax-requires : tie.Need-fmax-requires
 fmax-requires c κs = search needs
 
-real-of-requires-12 : tie.Need-real-of-requires-12
-real-of-requires-12 c κs = search needs
+real-of-requires-11 : tie.Need-real-of-requires-11
+real-of-requires-11 c κs = search needs
 
 fmod-of-requires : tie.Need-fmod-of-requires
 fmod-of-requires c κs = search needs
@@ -186,15 +183,15 @@ returns-9 c = (c .real-of7 .ensures .0 ∙ ap (λ (v : ℕ). done (real v)) (c .
 
 returns-10 : tie.Need-returns-10
 unfolding ruleOf
-returns-10 c = (c .real-of8 .ensures .0 ∙ ap (λ (v : ℕ). done (real v)) (c .before .fraction-of .ensures) ∙ carried-arm (c .before .before .before) (c .before .before .match .keys10), c .real-of8 .ensures .1)
+returns-10 c = (c .fraction-of .ensures .0 ∙ carried-arm (c .before .before) (c .before .match .keys10), c .fraction-of .ensures .1)
 
 returns-11 : tie.Need-returns-11
 unfolding ruleOf
-returns-11 c = (c .real-of9 .ensures .0 ∙ ap (λ (v : ℕ). done (real v)) (c .before .fabs .ensures) ∙ carried-arm (c .before .before .before) (c .before .before .match .keys11), c .real-of9 .ensures .1)
+returns-11 c = (c .real-of8 .ensures .0 ∙ ap (λ (v : ℕ). done (real v)) (c .before .fabs .ensures) ∙ carried-arm (c .before .before .before) (c .before .before .match .keys11), c .real-of8 .ensures .1)
 
 returns-12 : tie.Need-returns-12
 unfolding ruleOf
-returns-12 c = (c .real-of10 .ensures .0 ∙ ap (λ (v : ℕ). done (real v)) (c .before .negate .ensures) ∙ carried-arm (c .before .before .before) (c .before .before .match .keys12), c .real-of10 .ensures .1)
+returns-12 c = (c .real-of9 .ensures .0 ∙ ap (λ (v : ℕ). done (real v)) (c .before .negate .ensures) ∙ carried-arm (c .before .before .before) (c .before .before .match .keys12), c .real-of9 .ensures .1)
 
 returns-13 : tie.Need-returns-13
 unfolding ruleOf
@@ -204,11 +201,11 @@ returns-13 c =
 
 returns-14 : tie.Need-returns-14
 unfolding ruleOf
-returns-14 c = (c .real-of11 .ensures .0 ∙ ap (λ (v : ℕ). done (real v)) (c .before .fmin .ensures) ∙ carried-arm (c .before .before .before) (c .before .before .match .keys14), c .real-of11 .ensures .1)
+returns-14 c = (c .real-of10 .ensures .0 ∙ ap (λ (v : ℕ). done (real v)) (c .before .fmin .ensures) ∙ carried-arm (c .before .before .before) (c .before .before .match .keys14), c .real-of10 .ensures .1)
 
 returns-15 : tie.Need-returns-15
 unfolding ruleOf
-returns-15 c = (c .real-of12 .ensures .0 ∙ ap (λ (v : ℕ). done (real v)) (c .before .fmax .ensures) ∙ carried-arm (c .before .before .before) (c .before .before .match .keys15), c .real-of12 .ensures .1)
+returns-15 c = (c .real-of11 .ensures .0 ∙ ap (λ (v : ℕ). done (real v)) (c .before .fmax .ensures) ∙ carried-arm (c .before .before .before) (c .before .before .match .keys15), c .real-of11 .ensures .1)
 
 returns-16 : tie.Need-returns-16
 unfolding ruleOf
@@ -268,16 +265,15 @@ step-value-spec =
     nearbyint-requires
     real-of-requires-7
     fraction-of-requires
-    real-of-requires-8
     fabs-requires
-    real-of-requires-9
+    real-of-requires-8
     negate-requires
-    real-of-requires-10
+    real-of-requires-9
     lround-of-requires
     fmin-requires
-    real-of-requires-11
+    real-of-requires-10
     fmax-requires
-    real-of-requires-12
+    real-of-requires-11
     fmod-of-requires
     ldexp-of-requires
     sum-of-requires
