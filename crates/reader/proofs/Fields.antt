@@ -1,9 +1,9 @@
 -- A line of the short form is read from its own bytes as it is from the whole text. Assumes nothing.
-use mathlib.Core.Path.{_≡_, _∙_}
+use mathlib.Core.Path.{_≡_}
 use mathlib.Core.List.{List}
 use Prim.Native.Nat.{ℕ, _+_, _-_}
 use native.Mathlib.Omega.{arith}
-use lib.ListN.{getD, take, drop}
+use lib.ListN.{take, drop}
 use lib.Seq.{getD-take, getD-drop}
 use Rattle.hex.proofs.Laws.{field-part}
 use Rattle.recipe.specs.Text.{short, lineLength, lineAt}

@@ -1,6 +1,6 @@
 -- The run as floats carry it is the run: of steps that were read, on a frame that was, no value is a NaN, and a number is carried as it is.
 -- Assumes nothing.
-use mathlib.Core.Path.{_≡_, refl, ap}
+use mathlib.Core.Path.{_≡_, refl}
 use mathlib.Core.List.{List, [], _∷_, _++_}
 use Prim.Native.Nat.{ℕ, suc}
 use native.Mathlib.Omega.{arith}

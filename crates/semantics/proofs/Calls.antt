@@ -1,6 +1,6 @@
 -- The run and the sheet of steps, stage by stage: what they come to where they stop, and where they go on. A text adds the reading. Assumes
 -- nothing.
-use mathlib.Core.Path.{_≡_, refl, ap, sym, _∙_}
+use mathlib.Core.Path.{_≡_, refl, ap, _∙_}
 use mathlib.Core.Bool.{Bool, true, false, cond}
 use mathlib.Core.List.{List, []}
 use Prim.Native.Nat.{ℕ, _*_, _≤_, _<_}
@@ -9,7 +9,7 @@ use lib.Dec.{ltb}
 use lib.ListN.{length}
 use borrow.Author.Tests.{lt-ltb, le-ltb, eq-eqb, ne-eqb, ltb-false}
 use Rattle.recipe.specs.declared.Step.{Step}
-use Rattle.recipe.specs.Text.{Text, short, steps, mostSteps, inputsIn, readText}
+use Rattle.recipe.specs.Text.{Text, short, steps, inputsIn, readText}
 use Rattle.recipe.specs.Text as text
 use Rattle.semantics.specs.Frame.{Frame, words, onWords, wordsFrom, ranged, readFrame}
 use Rattle.semantics.specs.Frame as frame

@@ -1,35 +1,34 @@
 -- No value of a run is a NaN: of operands that are numbers no step rule makes one, no constant is one (refusal 16) and no input (refusal 32).
 -- It holds of every run of steps that were read, whether their sheet passes or not. Assumes nothing.
-use mathlib.Core.Path.{_≡_, refl, sym, ap, _∙_}
+use mathlib.Core.Path.{_≡_, refl, sym}
 use mathlib.Core.Bool.{Bool, true, false, _||_, cond}
 use mathlib.Core.List.{List, [], _∷_, _++_}
-use mathlib.Core.Logic.{⊎-elim}
 use Prim.Native.Nat.{ℕ, suc, _+_, _^_, _≤_, _<_}
 use native.Mathlib.Omega.{arith}
 use lib.Dec.{eqb, leb}
-use lib.IntN.{ℤ, natAbs, _+ℤ_, _-ℤ_}
-use lib.ListN.{length, getD, take, length-append, List·getD-append, List·getD-eq-default}
+use lib.IntN.{natAbs, _+ℤ_, _-ℤ_}
+use lib.ListN.{length, getD, length-append, List·getD-append, List·getD-eq-default}
 use lib.Seq.{getD-at}
 use borrow.Author.Tests.{eqb-true, leb-true}
-use Rattle.float_format.specs.Format.{binary64, isNan, infinity, unsigned}
+use Rattle.float_format.specs.Format.{binary64, isNan}
 use Rattle.float_format.specs.Rounding.{lroundRefusal}
 use Rattle.float_format.specs.declared.Direction.the-variants.{Down, Up, TowardZero, HalfAway, HalfEven}
 use Rattle.float_format.proofs.Units.{three-way}
 use Rattle.splitting.specs.Splitting.{modfFraction}
 use Rattle.splitting.proofs.Laws.{fraction-number}
-use Rattle.remainder.specs.Remainder.{fmod, fmodRefusal}
-use Rattle.scaling.specs.Scaling.{ldexp, ldexpRefusal}
+use Rattle.remainder.specs.Remainder.{fmodRefusal}
+use Rattle.scaling.specs.Scaling.{ldexpRefusal}
 use Rattle.recipe.specs.declared.Step.{Step}
-use Rattle.recipe.specs.Table.{rowOf, isInput}
+use Rattle.recipe.specs.Table.{rowOf}
 use Rattle.recipe.specs.Text.{mostSteps, first, second, badRange, doubleAbove}
 use Rattle.recipe.specs.Answer.{Formed}
-use Rattle.semantics.specs.Value.{Datum, double, whole, asDouble, asWhole, Outcome, done, refused, fitsWord, ofWhole, ruleOf, stepValue}
+use Rattle.semantics.specs.Value.{Datum, double, whole, asDouble, asWhole, Outcome, done, refused, fitsWord, ruleOf, stepValue}
 use Rattle.semantics.specs.Value as value
 use Rattle.semantics.specs.Frame.{words, outside, readFrame}
 use Rattle.semantics.specs.Frame as frame
-use Rattle.semantics.specs.Run.{Run, completed, noValue, stepOn, onOutcome, runFrom}
+use Rattle.semantics.specs.Run.{completed, noValue, stepOn, onOutcome, runFrom}
 use Rattle.semantics.proofs.Rules.{Unlisted, unlisted, by-opcode}
-use Rattle.semantics.proofs.Sound.Kept.{never, no-or, valid, rest-of, number-of, zero-number}
+use Rattle.semantics.proofs.Sound.Kept.{no-or, valid, rest-of, number-of, zero-number}
 use Rattle.semantics.proofs.Sound.Floats.{integral-number, negated-number, fmin-number, fmax-number, absolute-number}
 use Rattle.semantics.proofs.Sound.Fractions.{fmod-number}
 use Rattle.semantics.proofs.Sound.Scaled.{ldexp-number}

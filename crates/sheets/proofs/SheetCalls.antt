@@ -11,7 +11,7 @@ use borrow.Author.Tests.{lt-ltb, le-ltb}
 use Rattle.recipe.specs.declared.Reading.{Reading}
 use Rattle.recipe.specs.declared.Step.{Step}
 use Rattle.recipe.specs.Text.{short, mostSteps, readText}
-use Rattle.recipe.specs.Packed.{badWords, stepsIn, stepsOf}
+use Rattle.recipe.specs.Packed.{badWords, stepsIn}
 use Rattle.recipe.specs.Answer.{Says, Holds}
 use Rattle.recipe.proofs.Packed.{steps-length, holds-words}
 use Rattle.recipe.proofs.Laws.{answer-steps, answer-count, answer-holds, answer-refused}

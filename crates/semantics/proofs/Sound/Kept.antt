@@ -1,8 +1,8 @@
 -- What it is for a range rule to keep its promise of a step, and a value's place in its range as facts about the ends. An operand of
 -- the other kind counts as zero, in its value and in its range alike, so that no rule needs to know its operands' kinds. Assumes
 -- nothing.
-use mathlib.Core.Path.{_≡_, refl, sym, ap, _∙_}
-use mathlib.Core.Bool.{Bool, true, false, _&&_, _||_, cond}
+use mathlib.Core.Path.{_≡_, refl, sym, _∙_}
+use mathlib.Core.Bool.{Bool, true, false, _&&_, _||_}
 use Prim.Native.Nat.{ℕ, _≤_}
 use native.Mathlib.Omega.{arith}
 use lib.IntN.{ℤ}

@@ -13,7 +13,7 @@ use Rattle.float_format.proofs.Units.{three-way}
 use Rattle.recipe.specs.declared.Kind.{Kind}
 use Rattle.recipe.specs.declared.Step.{Step}
 use Rattle.recipe.specs.Table.{rowOf, isInput}
-use Rattle.recipe.specs.Text.{steps, short, mostSteps, first, second, noStep, isUnknown, badRange, inputsIn, readText}
+use Rattle.recipe.specs.Text.{steps, short, mostSteps, first, second, noStep, isUnknown, badRange, inputsIn}
 use Rattle.recipe.specs.Text as text
 use Rattle.recipe.specs.Answer.{Formed}
 use Rattle.recipe.proofs.Laws.{step-checked, read-formed}
