@@ -98,10 +98,10 @@ fn evaluate(steps: &[u64], n: usize, inputs: Inputs, words: &mut [u64]) -> RunAn
     }
 }
 
-// Runs a recipe that was read, on one frame: writes a word a step, and answers the last step's kind and word. The rest of the words stays
+// Runs a recipe that was read, on one frame: writes one word per step, and answers the last step's kind and word. The rest of the words stays
 // as lent, and so does all of it where the run is refused. `steps` has the recipe's steps, three words each, as the reader put them.
 //
-// Refuses, in this order: 40 where there are fewer words than steps, at place 0; 30 where the frame is not 16 digits an input, 31 where a byte
+// Refuses, in this order: 40 where there are fewer words than steps, at place 0; 30 where the frame is not 16 digits per input, 31 where a byte
 // of it is no lower-case hexadecimal digit, both at place 0; 32 where an input is a NaN or outside its declared range, at the input's step;
 // then the first step's 20 to 22, at that step. Before these, of words that the reader gave for no text: 10 where they are not three each for
 // 1 to 128 steps, 17 where more than 16 of the steps are inputs, both at place 0.

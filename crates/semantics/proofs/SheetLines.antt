@@ -34,7 +34,7 @@ lines-more k (q ∷ l) r =
     ∙ sym (append-assoc (lineOf k q) (linesFrom (suc k) l) (lineOf (suc k + length l) r))
     ∙ rw e
 
--- ---- a line a step
+-- ---- one line per step
 
 by-ranged : (t : Step) (ts : List Step) (k : ℕ) (l r : List Range)
     → ((x : Range) → sheetFrom ts (suc k) (l ++ (x ∷ [])) ≡ passed r → length r ≡ length (l ++ (x ∷ [])) + length ts)

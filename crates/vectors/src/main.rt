@@ -45,7 +45,7 @@ fn respond_all(input: &[u8], n: usize, output: &mut [u8])
     }
 }
 
-// Reads until the buffer is full or the input ends, and answers whether there may be more.
+// Reads until the buffer is full or the input ends, and answers whether there may be more. A last line that is cut off has no answer.
 fn run_some() -> bool {
     let mut input = [0u8; LINES * case::LINE];
     let mut output = [0u8; LINES * answer::LINE];

@@ -27,22 +27,21 @@ use std::process::Command;
 impl Program {
     /// What the program says of a read that failed.
     pub fn cannot_read(&self, why: &str) -> String {
-        let what = match self.name {
-            "run" => "answers are incomplete",
-            _ => "no sheet is written",
-        };
-        let name = self.name;
-        format!("{name}: {what}: cannot read standard input: {why}\n")
+        self.failure("no sheet is written", "read standard input", why)
     }
 
     /// What the program says of a write that failed.
     pub fn cannot_write(&self, why: &str) -> String {
+        self.failure("the sheet is incomplete", "write standard output", why)
+    }
+
+    /// The program's line about a call that failed, with what that means for a sheet.
+    fn failure(&self, of_a_sheet: &str, call: &str, why: &str) -> String {
         let what = match self.name {
             "run" => "answers are incomplete",
-            _ => "the sheet is incomplete",
+            _ => of_a_sheet,
         };
-        let name = self.name;
-        format!("{name}: {what}: cannot write standard output: {why}\n")
+        format!("{}: {what}: cannot {call}: {why}\n", self.name)
     }
 
     /// How the line about an argument begins.

@@ -145,6 +145,13 @@ impl Case {
         )
     }
 
+    /// strace answered for that call, and the output is whole and nothing was said.
+    fn assert_unharmed(&self, name: &str, descriptor: i32, injection: &str, traced: &Traced) {
+        traced.bytes_before(name, descriptor);
+        self.program
+            .assert_ended(injection, &traced.ending, &self.whole(), "");
+    }
+
     /// With strace answering so for one call after the other of this name on that descriptor.
     fn with_each(&self, name: &str, descriptor: i32, answer: &str) -> Vec<(String, Traced)> {
         let places = self.with(&[]).places(name, descriptor);
@@ -263,9 +270,7 @@ fn calls_to_be_repeated() {
             ("close", 1, "EINTR"),
         ] {
             for (injection, traced) in case.with_each(name, descriptor, &format!("error={error}")) {
-                traced.bytes_before(name, descriptor);
-                case.program
-                    .assert_ended(&injection, &traced.ending, &case.whole(), "");
+                case.assert_unharmed(name, descriptor, &injection, &traced);
             }
         }
     }
@@ -281,9 +286,7 @@ fn calls_to_be_repeated_often() {
             for error in ["EINTR", "EAGAIN"] {
                 let injection = format!("{name}:error={error}:when={first}..{}", first + 20);
                 let traced = case.with(&[&injection]);
-                traced.bytes_before(name, descriptor);
-                case.program
-                    .assert_ended(&injection, &traced.ending, &case.whole(), "");
+                case.assert_unharmed(name, descriptor, &injection, &traced);
             }
         }
     }
