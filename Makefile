@@ -89,7 +89,12 @@ uninstall:  ## remove what install put under PREFIX
 test:  ## the whole gate: .ci/run
 	bash .ci/run
 
-test-c: build test-readable  ## compile the header as C99 and C++11, check the marked cases, read the machine code, measure the stack
+# Halves beside the processor's conversion and the compiler's.
+build/halves: tests/c/halves.c $(LIBRARY) $(HEADER)
+	@$(call need,$(CC),compile the C tests)
+	$(CC) -std=c99 $(CFLAGS) $(WARNINGS) -Ibuild tests/c/halves.c $(LIBRARY) -lm -o $@
+
+test-c: build test-readable build/halves  ## compile the header as C99 and C++11, check the marked cases, hold halves beside the processor's, read the machine code, measure the stack
 	@$(call need,$(CC),compile the C tests)
 	@$(call need,objdump,read the machine code (binutils))
 	$(CC) -std=c99 $(CFLAGS) $(WARNINGS) -Ibuild tests/c/compile.c $(LIBRARY) -lm -o build/compile-c
@@ -101,6 +106,7 @@ test-c: build test-readable  ## compile the header as C99 and C++11, check the m
 	else \
 		echo "$(CXX) is missing: the C++ test is left out"; \
 	fi
+	build/halves
 	sh tests/c/machine_code.sh $(LIBRARY)
 	$(CC) -std=gnu11 $(CFLAGS) $(WARNINGS) -Ibuild tests/c/stack.c $(LIBRARY) -lpthread -o build/stack
 	build/stack
@@ -145,15 +151,16 @@ test-endless: build  ## the programs on lines of 4 GiB, in memory that does not 
 	@$(call need,cargo,build the Rust tests)
 	ESTRENWIND_ENDLESS_MIB=$(ENDLESS_MIB) cargo test $(CARGO_TESTS) --test programs -- endless
 
-test-exhaustive: build  ## compare them on every f32 there is, 2^32 patterns a function: long, not in the gate
+test-exhaustive: build build/halves  ## compare them on every f32 there is, 2^32 patterns a function: long, not in the gate
 	@$(call need,cargo,build the Rust tests)
 	cargo run $(CARGO_TESTS) --bin exhaustive
+	build/halves all
 
-bench: build  ## time single calls beside glibc, musl and newlib, check the targets, and time runs, sheets and the program run beside plain ones
+bench: build  ## time single calls beside glibc, musl and newlib, halves beside gcc, F16C and Imath, check the targets, and time runs, sheets and the program run beside plain ones
 	@$(call need,$(CC),compile the benchmark)
 	CC=$(call quoted,$(CC)) sh bench/references.sh build/bench
 	$(CC) -std=gnu99 -O2 -Wall -Wextra -falign-functions=64 -falign-loops=64 -Ibuild -Ibuild/bench bench/bench.c \
-		build/bench/musl.o build/bench/newlib.o $(LIBRARY) -lm -o build/bench/bench
+		build/bench/musl.o build/bench/newlib.o build/bench/imath.o $(LIBRARY) $$(cat build/bench/libraries) -lm -o build/bench/bench
 	@$(call need,cargo,build the plain interpreter)
 	cargo build --offline --quiet --profile speed --manifest-path tests/Cargo.toml --bin recipe_speed --bin reference_run --bin program_speed
 	@echo
@@ -163,9 +170,9 @@ bench: build  ## time single calls beside glibc, musl and newlib, check the targ
 	@echo
 	@tests/target/speed/program_speed build/run tests/target/speed/reference_run build/bench
 
-bench-deps:  ## install musl and newlib's source for the benchmark (Debian, as root)
+bench-deps:  ## install musl, newlib's source and Imath for the benchmark (Debian, as root)
 	@$(call need,apt-get,install packages)
-	apt-get install -y musl-dev newlib-source
+	apt-get install -y musl-dev newlib-source libimath-dev
 
 fmt:  ## put Rattle and Rust sources in their layout
 	@$(call need,rt,format the crates (the Rattle toolchain))

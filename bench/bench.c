@@ -1,5 +1,6 @@
 /*
- * Times single calls of the library's functions beside glibc's, musl's and newlib's, in one binary and one run.
+ * Times single calls of the library's functions beside glibc's, musl's and newlib's, and of those of halves beside floats and others'
+ * conversions (halves.h), in one binary and one run.
  *
  * Every function is called through a pointer from a loop over an array that stays in the cache; the loop takes the operands
  * from an array of the function's own type and folds the answers' bits together, so that no answer is thrown away and all pay
@@ -31,15 +32,25 @@ static const double QUIET = 1.1, SECONDS = 120;
 typedef union { uint64_t bits[COUNT]; double values[COUNT]; } operands64;
 typedef union { uint32_t bits[COUNT]; float values[COUNT]; } operands32;
 
-/* x, the second operand y of a function of two numbers, and the n of ldexp. */
+/* A compiler without _Float16 leaves its column empty. */
+#ifdef __FLT16_MANT_DIG__
+typedef _Float16 half;
+#else
+typedef uint16_t half;
+#endif
+typedef union { uint16_t bits[COUNT]; half values[COUNT]; } operands16;
+
+/* x, the second operand y of a function of two numbers, and the n of ldexp. Or halves, the same as floats, and floats to be made halves. */
 typedef struct {
     const char *name;
     operands64 x64, y64;
     operands32 x32, y32;
     int n64[COUNT], n32[COUNT];
+    operands16 halves;
+    operands32 floats, wide;
 } data_set;
 
-enum { TEXTURE, MIXED, SUBNORMAL, SPECIAL, FAR, TINY, SETS };
+enum { TEXTURE, MIXED, SUBNORMAL, SPECIAL, FAR, TINY, HALF_NORMAL, HALF_SUBNORMAL, HALF_ANY, SETS };
 
 static data_set sets[SETS] = {
     {.name = "texture-like: x in -4096 to 4096, with fractions; y in 0.5 to 64; n in -16 to 16"},
@@ -48,6 +59,9 @@ static data_set sets[SETS] = {
     {.name = "texture-like, one in ten infinite or NaN"},
     {.name = "exponents far apart: x in the top quarter of the exponents, y in the lowest"},
     {.name = "texture-like x, subnormal y"},
+    {.name = "normal halves; floats that become such"},
+    {.name = "subnormal halves; floats that become such"},
+    {.name = "any 16 bits; any 32 bits"},
 };
 
 static uint64_t random_bits(void)
@@ -95,6 +109,17 @@ static void put_special(operands64 *f64, operands32 *f32, int i)
     }
 }
 
+/* Patterns with this exponent field and random signs and fractions. */
+static uint16_t half_of(uint64_t e) { return (uint16_t)((random_bits() & 0x83ff) | e << 10); }
+static uint32_t float_of(uint64_t e) { return (uint32_t)((random_bits() & 0x807fffff) | e << 23); }
+
+static void put_half(data_set *set, int i, uint16_t half, uint32_t wide)
+{
+    set->halves.bits[i] = half;
+    set->floats.bits[i] = ew_f16_to_f32(half);
+    set->wide.bits[i] = wide;
+}
+
 static void fill(void)
 {
     int i, s;
@@ -124,6 +149,12 @@ static void fill(void)
         put(&set->y64, &set->y32, i, 1 + random_bits() % 511, (uint32_t)(1 + random_bits() % 63));
         set = &sets[TINY];
         put(&set->y64, &set->y32, i, 0, 0);
+    }
+    /* Floats from 2^-14 to 2^15, and from 2^-24 to 2^-14. */
+    for (i = 0; i < COUNT; i++) {
+        put_half(&sets[HALF_NORMAL], i, half_of(1 + random_bits() % 30), float_of(113 + random_bits() % 29));
+        put_half(&sets[HALF_SUBNORMAL], i, (uint16_t)((random_bits() & 0x8000) | (1 + random_bits() % 1023)), float_of(103 + random_bits() % 10));
+        put_half(&sets[HALF_ANY], i, (uint16_t)random_bits(), (uint32_t)random_bits());
     }
 }
 
@@ -282,6 +313,8 @@ FUNCTIONS
 
 enum { OURS, HEADERS, GLIBC, MUSL, NEWLIB, COLUMNS };
 
+#include "halves.h"
+
 typedef struct {
     loop *run;
     anything *function;
@@ -315,12 +348,18 @@ static struct {
 #define STEP(name, limit) BOTH(name, pair, limit, 0, 0, 0)
 #define CHOICE(name, limit) BOTH(name, choice, limit, 0, 0, 0)
     FUNCTIONS
+    HALVES
 };
 
 enum { ROWS = sizeof rows / sizeof rows[0] };
 
-/* The sets after SPECIAL are for remainders alone. */
-static int takes(int row, int set) { return set <= SPECIAL || rows[row].far != 0; }
+/* The sets after SPECIAL are for remainders alone, and the last three for halves. */
+static int takes(int row, int set)
+{
+    if (rows[row].width == 16 || set >= HALF_NORMAL)
+        return rows[row].width == 16 && set >= HALF_NORMAL;
+    return set <= SPECIAL || rows[row].far != 0;
+}
 
 /* ---- measuring ---- */
 
@@ -428,7 +467,8 @@ static void print_machine(void)
     if (cpu != NULL)
         fclose(cpu);
     printf("glibc    %s%s\n", gnu_get_libc_version(), __builtin_cpu_supports("sse4.1") ? ", SSE4.1 chosen at run time" : "");
-    printf("musl     %s\nnewlib   %s\ngcc      %s\n", MUSL_VERSION, NEWLIB_VERSION, __VERSION__);
+    printf("musl     %s\nnewlib   %s\nImath    %s\ngcc      %s\n", MUSL_VERSION, NEWLIB_VERSION, IMATH_VERSION, __VERSION__);
+    printf("F16C     %s\n", has_f16c() ? "yes" : "this processor has none");
     printf("identity call %.2f ns; medians (and least) of at most %d repetitions; %ld times dropped for a disturbance\n", fastest,
            SAMPLES, dropped);
 }
@@ -453,8 +493,12 @@ static void print_set(int set, int width)
 {
     int r, c;
     printf("\nf%d, %s\n", width, sets[set].name);
-    printf("%-10s  %13s  %13s  %13s  %13s  %13s %7s %7s %7s\n", "ns a call", "Estrenwind", "header form", "glibc", "musl",
-           "newlib", "/glibc", "/musl", "/newlib");
+    if (width == 16)
+        printf("%-10s  %13s  %13s  %13s  %13s  %13s %7s %7s %7s %7s\n", "ns a call", "Estrenwind", "same in f32", "gcc _Float16", "F16C",
+               "Imath", "/f32", "/gcc", "/F16C", "/Imath");
+    else
+        printf("%-10s  %13s  %13s  %13s  %13s  %13s %7s %7s %7s\n", "ns a call", "Estrenwind", "header form", "glibc", "musl",
+               "newlib", "/glibc", "/musl", "/newlib");
     for (r = 0; r < ROWS; r++) {
         figures f;
         if (rows[r].width != width || !takes(r, set))
@@ -463,7 +507,7 @@ static void print_set(int set, int width)
         printf("%-10s", rows[r].name);
         for (c = 0; c < COLUMNS; c++)
             print_pair(f.medians[c], f.least[c]);
-        for (c = GLIBC; c < COLUMNS; c++)
+        for (c = width == 16 ? FLOATS : GLIBC; c < COLUMNS; c++)
             print_ratio(f.medians[OURS] / f.medians[c]);
         putchar('\n');
     }
@@ -501,6 +545,8 @@ static int print_targets(void)
     for (r = 0; r < ROWS; r++) {
         const double musl = figures_of(r, TEXTURE).medians[MUSL];
         int missed = 0;
+        if (rows[r].width == 16)
+            continue;
         printf("f%d %-10s", rows[r].width, rows[r].name);
         missed |= hold_ratio(r, TEXTURE, GLIBC, rows[r].limit);
         missed |= hold(rows[r].lead == 0 ? NAN : 1 / ratio(r, TEXTURE, MUSL), ">=", rows[r].lead);
@@ -513,6 +559,35 @@ static int print_targets(void)
         if (musl < fastest * rows[r].lead)
             printf(" (musl's %.2f ns: even the identity call is not %g times as fast)", musl, rows[r].lead);
         putchar('\n');
+        missed_rows += missed;
+    }
+    return missed_rows;
+}
+
+/* A ratio of a function of halves on each of the three sets, where it has such a column. */
+static int hold_halves(int row, int column, double most)
+{
+    int s, missed = 0;
+    for (s = HALF_NORMAL; s <= HALF_ANY; s++)
+        missed |= hold_ratio(row, s, column, most);
+    return missed;
+}
+
+static int print_half_targets(void)
+{
+    int r, missed_rows = 0;
+    printf("\n%-14s  %14s  %14s  %14s  %14s  %14s  %14s  %14s\n", "", "subn./normal", "normal/gcc", "subnormal/gcc", "any/gcc", "normal/f32",
+           "subnormal/f32", "any/f32");
+    for (r = 0; r < ROWS; r++) {
+        const double subnormal = figures_of(r, HALF_SUBNORMAL).medians[OURS] / figures_of(r, HALF_NORMAL).medians[OURS];
+        int missed = 0;
+        if (rows[r].width != 16)
+            continue;
+        printf("f16 %-10s", rows[r].name);
+        missed |= hold(strcmp(rows[r].name, "import") == 0 ? subnormal : NAN, "<=", SUBNORMAL_IMPORT);
+        missed |= hold_halves(r, GCC, BESIDE_GCC);
+        missed |= hold_halves(r, FLOATS, BESIDE_FLOATS);
+        printf("  %s\n", missed ? "MISSED" : "target met");
         missed_rows += missed;
     }
     return missed_rows;
@@ -534,17 +609,23 @@ int main(void)
     double end;
     int i, missed;
     fill();
+    for (i = 0; i < ROWS; i++)
+        if (rows[i].width == 16 && !has_f16c())
+            rows[i].measures[F16C].function = NULL;
     for (i = 0; i < 2000; i++)
         time_of_identity();
     end = now() + SECONDS * 1e9;
     while (repeat() && now() < end)
         ;
     print_machine();
-    for (i = 0; i < SETS; i++) {
+    for (i = 0; i < HALF_NORMAL; i++) {
         print_set(i, 64);
         print_set(i, 32);
     }
+    for (i = HALF_NORMAL; i < SETS; i++)
+        print_set(i, 16);
     missed = print_targets();
+    missed += print_half_targets();
     if (too_few())
         printf("\nThe machine was too busy: some figures stand on fewer than %d quiet repetitions. Run again when it is quiet.\n",
                ENOUGH);

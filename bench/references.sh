@@ -1,7 +1,7 @@
 #!/bin/sh
 # Builds musl's and newlib's versions of the timed functions, under the names musl_floor and newlib_floor, so that one binary can
-# hold them beside glibc's: references.sh OUT writes OUT/musl.o, OUT/newlib.o and OUT/versions.h. A library that is not installed
-# gives an empty object and a line that says so.
+# hold them beside glibc's, and Imath's conversions of halves: references.sh OUT writes OUT/musl.o, OUT/newlib.o, OUT/imath.o, OUT/versions.h and
+# OUT/libraries, what to link besides. A library that is not installed gives an empty object and a line that says so.
 set -eu
 here=$(cd "$(dirname "$0")" && pwd)
 out=$1
@@ -52,4 +52,19 @@ else
     empty "$out/newlib.o"
 fi
 
-printf '#define MUSL_VERSION "%s"\n#define NEWLIB_VERSION "%s"\n' "$musl" "$newlib" >"$out/versions.h"
+# Imath comes as a header, and a library with the table that the header reads.
+imath="not installed: make bench-deps" libraries=
+if echo '#include <Imath/half.h>' | "$cc" -E -x c - >/dev/null 2>&1; then
+    cat >"$out/imath.c" <<'END'
+#include <Imath/half.h>
+float imath_import(uint16_t x) { return imath_half_to_float(x); }
+uint16_t imath_export(float x) { return imath_float_to_half(x); }
+END
+    "$cc" -O2 -falign-functions=64 -c "$out/imath.c" -o "$out/imath.o"
+    imath=$(version libimath-dev) libraries=-lImath
+else
+    empty "$out/imath.o"
+fi
+echo "$libraries" >"$out/libraries"
+
+printf '#define MUSL_VERSION "%s"\n#define NEWLIB_VERSION "%s"\n#define IMATH_VERSION "%s"\n' "$musl" "$newlib" "$imath" >"$out/versions.h"

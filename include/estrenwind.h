@@ -1,8 +1,8 @@
 /*
  * Estrenwind: rounding, splitting, scaling and remainders of IEEE 754 numbers, exact to the last bit, and recipes of such steps.
  *
- * A function whose name ends in _f64 or _f32 takes and returns bit patterns: the 64 bits of a double as a uint64_t, the 32
- * bits of a float as a uint32_t. So a host cannot change a NaN's bits on the way in or out, and what a function makes of a NaN
+ * A function whose name ends in _f64, _f32 or _f16 takes and returns bit patterns: the 64 bits of a double as a uint64_t, the 32
+ * bits of a float as a uint32_t, the 16 bits of a half (binary16) as a uint16_t. So a host cannot change a NaN's bits on the way in or out, and what a function makes of a NaN
  * is what its comment says: mostly the same NaN "quieted", which means the same pattern with the top fraction bit set. Under
  * each pair stand two forms on double and float, with C's names, that only move the bits.
  *
@@ -87,6 +87,7 @@ enum {
 /* A pattern, and the refusal's number; what the pattern is where one is refused, each function says. Then the same of values. */
 typedef struct { uint64_t word; uint64_t refusal; } ew_word64;
 typedef struct { uint32_t word; uint64_t refusal; } ew_word32;
+typedef struct { uint16_t word; uint64_t refusal; } ew_word16;
 typedef struct { double value; uint64_t refusal; } ew_double;
 typedef struct { float value; uint64_t refusal; } ew_float;
 static inline ew_double ew_value_word64(ew_word64 answer) { ew_double r; r.value = ew_value_f64(answer.word); r.refusal = answer.refusal; return r; }
@@ -149,6 +150,7 @@ static inline float ew_negatef(float x) { return ew_value_f32(ew_negate_f32(ew_b
  */
 uint64_t ew_floor_f64(uint64_t x);
 uint32_t ew_floor_f32(uint32_t x);
+uint16_t ew_floor_f16(uint16_t x);
 static inline double ew_floor(double x) { return ew_value_f64(ew_floor_f64(ew_bits_f64(x))); }
 static inline float ew_floorf(float x) { return ew_value_f32(ew_floor_f32(ew_bits_f32(x))); }
 
@@ -163,6 +165,7 @@ static inline float ew_floorf(float x) { return ew_value_f32(ew_floor_f32(ew_bit
  */
 uint64_t ew_ceil_f64(uint64_t x);
 uint32_t ew_ceil_f32(uint32_t x);
+uint16_t ew_ceil_f16(uint16_t x);
 static inline double ew_ceil(double x) { return ew_value_f64(ew_ceil_f64(ew_bits_f64(x))); }
 static inline float ew_ceilf(float x) { return ew_value_f32(ew_ceil_f32(ew_bits_f32(x))); }
 
@@ -176,6 +179,7 @@ static inline float ew_ceilf(float x) { return ew_value_f32(ew_ceil_f32(ew_bits_
  */
 uint64_t ew_trunc_f64(uint64_t x);
 uint32_t ew_trunc_f32(uint32_t x);
+uint16_t ew_trunc_f16(uint16_t x);
 static inline double ew_trunc(double x) { return ew_value_f64(ew_trunc_f64(ew_bits_f64(x))); }
 static inline float ew_truncf(float x) { return ew_value_f32(ew_trunc_f32(ew_bits_f32(x))); }
 
@@ -189,6 +193,7 @@ static inline float ew_truncf(float x) { return ew_value_f32(ew_trunc_f32(ew_bit
  */
 uint64_t ew_round_f64(uint64_t x);
 uint32_t ew_round_f32(uint32_t x);
+uint16_t ew_round_f16(uint16_t x);
 static inline double ew_round(double x) { return ew_value_f64(ew_round_f64(ew_bits_f64(x))); }
 static inline float ew_roundf(float x) { return ew_value_f32(ew_round_f32(ew_bits_f32(x))); }
 
@@ -203,6 +208,7 @@ static inline float ew_roundf(float x) { return ew_value_f32(ew_round_f32(ew_bit
  */
 uint64_t ew_nearbyint_f64(uint64_t x);
 uint32_t ew_nearbyint_f32(uint32_t x);
+uint16_t ew_nearbyint_f16(uint16_t x);
 static inline double ew_nearbyint(double x) { return ew_value_f64(ew_nearbyint_f64(ew_bits_f64(x))); }
 static inline float ew_nearbyintf(float x) { return ew_value_f32(ew_nearbyint_f32(ew_bits_f32(x))); }
 
@@ -226,6 +232,38 @@ ew_whole ew_lround_f64(uint64_t x);
 ew_whole ew_lround_f32(uint32_t x);
 static inline ew_whole ew_lround(double x) { return ew_lround_f64(ew_bits_f64(x)); }
 static inline ew_whole ew_lroundf(float x) { return ew_lround_f32(ew_bits_f32(x)); }
+
+/* ---- Halves ---- */
+
+/*
+ * Halves have no C type of their own here: they are patterns, and what is worked out with them is worked out in floats. The five
+ * roundings above have a form on halves, _f16, which gives what ew_f16_to_f32, the same rounding on floats and ew_f32_to_f16
+ * give, for every pattern.
+ */
+
+/*
+ * ew_f16_to_f32 returns the float of a half, exactly.
+ *
+ * Special cases are:
+ *     f16_to_f32(±0) = ±0
+ *     f16_to_f32(±Inf) = ±Inf
+ *     f16_to_f32(NaN) = a NaN with its sign and its payload, quieted; the float's further bits are zero
+ */
+uint32_t ew_f16_to_f32(uint16_t x);
+
+/*
+ * ew_f32_to_f16 returns the half nearest to x, and of two equally near the even one. A zero result has x's sign. A half that
+ * is no NaN comes back from ew_f16_to_f32 and ew_f32_to_f16 with its own bits.
+ *
+ * Special cases are:
+ *     f32_to_f16(±0) = ±0
+ *     f32_to_f16(x) = ±0 for |x| <= 2^-25
+ *     f32_to_f16(±Inf) = ±Inf
+ *     f32_to_f16(NaN) = a NaN with its sign and the top ten bits of its payload, quieted
+ *
+ * Refuses 3 (EW_REFUSED_RANGE) where x is finite and 65520 or more in magnitude: the infinity of x's sign.
+ */
+ew_word16 ew_f32_to_f16(uint32_t x);
 
 /* ---- Splitting and scaling ---- */
 

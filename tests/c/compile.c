@@ -1,6 +1,6 @@
 /*
  * Calls every function of estrenwind.h, on patterns and on values, and compares bits. The cases are document 01's marked ones
- * at both widths, and those that a float operation gets wrong under flush-to-zero, denormals-are-zero or another rounding mode:
+ * at every width, and those that a float operation gets wrong under flush-to-zero, denormals-are-zero or another rounding mode:
  * the table is gone through once in each rounding mode.
  *
  * Built as C99, as C++11 (compile.cpp), and with -ffast-math, whose start-up code sets FTZ and DAZ for the whole program.
@@ -30,6 +30,7 @@ static void check(const char *function, uint64_t x, uint64_t answer, uint64_t ex
 /* A row names a function once; these are its form on patterns, its form on values, and its name in a message. */
 #define F64(function) #function "_f64", ew_##function##_f64, ew_##function
 #define F32(function) #function "_f32", ew_##function##_f32, ew_##function##f
+#define F16(function) #function "_f16", ew_##function##_f16
 
 static const struct {
     const char *name;
@@ -92,6 +93,70 @@ static const struct {
     {F32(nearbyint), 0x7fbfffff, 0x7fffffff},
     {F32(fabs), 0xff800001, 0x7f800001},
     {F32(negate), 0x80000001, 0x00000001},
+};
+
+/* Halves have patterns alone. */
+static const struct {
+    const char *name;
+    uint16_t (*pattern)(uint16_t);
+    uint16_t x, expected;
+} words16[] = {
+    {F16(floor), 0xb800, 0xbc00},
+    {F16(floor), 0x6401, 0x6401},
+    {F16(floor), 0x8001, 0xbc00},
+    {F16(floor), 0xfc01, 0xfe01},
+    {F16(ceil), 0xb800, 0x8000},
+    {F16(ceil), 0x0001, 0x3c00},
+    {F16(ceil), 0x63ff, 0x6400}, /* carries into the exponent */
+    {F16(trunc), 0x8000, 0x8000},
+    {F16(trunc), 0x83ff, 0x8000},
+    {F16(trunc), 0x7c00, 0x7c00},
+    {F16(round), 0x3800, 0x3c00},
+    {F16(round), 0x37ff, 0x0000},
+    {F16(round), 0xc100, 0xc200},
+    {F16(round), 0xfbff, 0xfbff},
+    {F16(nearbyint), 0x4100, 0x4000},
+    {F16(nearbyint), 0x3801, 0x3c00},
+    {F16(nearbyint), 0x7dff, 0x7fff},
+};
+
+static const struct {
+    uint16_t x;
+    uint32_t expected;
+} imports[] = {
+    {0x0000, 0x00000000},
+    {0x8000, 0x80000000},
+    {0x0001, 0x33800000}, /* 2^-24 */
+    {0x83ff, 0xb87fc000}, /* the largest subnormal one */
+    {0x0400, 0x38800000}, /* 2^-14 */
+    {0xc100, 0xc0200000}, /* -2.5 */
+    {0x7bff, 0x477fe000}, /* 65504 */
+    {0xfc00, 0xff800000},
+    {0x7c01, 0x7fc02000}, /* a signalling NaN, quieted */
+    {0xffff, 0xffffe000},
+};
+
+static const struct {
+    uint32_t x;
+    uint16_t expected;
+    uint64_t refusal;
+} exports[] = {
+    {0x80000000, 0x8000, EW_ACCEPTED},
+    {0x80000001, 0x8000, EW_ACCEPTED},      /* a subnormal float */
+    {0x33000000, 0x0000, EW_ACCEPTED},      /* 2^-25: a tie, to even */
+    {0xb3000001, 0x8001, EW_ACCEPTED},      /* the next one: up in magnitude, in every mode */
+    {0x33c00000, 0x0002, EW_ACCEPTED},      /* 1.5 * 2^-24 */
+    {0x34200001, 0x0003, EW_ACCEPTED},      /* rounded once */
+    {0x387fe000, 0x0400, EW_ACCEPTED},      /* carries into the normal numbers */
+    {0x38800000, 0x0400, EW_ACCEPTED},      /* 2^-14 */
+    {0x3f801000, 0x3c00, EW_ACCEPTED},      /* 1 + 2^-11 */
+    {0x3f803000, 0x3c02, EW_ACCEPTED},
+    {0x477fefff, 0x7bff, EW_ACCEPTED},      /* 65519.996 */
+    {0x477ff000, 0x7c00, EW_REFUSED_RANGE}, /* 65520 */
+    {0xff7fffff, 0xfc00, EW_REFUSED_RANGE},
+    {0xff800000, 0xfc00, EW_ACCEPTED},
+    {0x7f800001, 0x7e00, EW_ACCEPTED}, /* a NaN whose payload is lost */
+    {0xffbfffff, 0xffff, EW_ACCEPTED},
 };
 
 static const struct {
@@ -293,6 +358,15 @@ static void check_all(void)
         const uint32_t x = words32[i].x;
         check(words32[i].name, x, words32[i].pattern(x), words32[i].expected);
         check(words32[i].name, x, ew_bits_f32(words32[i].value(ew_value_f32(x))), words32[i].expected);
+    }
+    for (i = 0; i < LENGTH(words16); i++)
+        check(words16[i].name, words16[i].x, words16[i].pattern(words16[i].x), words16[i].expected);
+    for (i = 0; i < LENGTH(imports); i++)
+        check("f16_to_f32", imports[i].x, ew_f16_to_f32(imports[i].x), imports[i].expected);
+    for (i = 0; i < LENGTH(exports); i++) {
+        const ew_word16 half = ew_f32_to_f16(exports[i].x);
+        check("f32_to_f16", exports[i].x, half.word, exports[i].expected);
+        check("f32_to_f16", exports[i].x, half.refusal, exports[i].refusal);
     }
     for (i = 0; i < LENGTH(wholes64); i++) {
         const uint64_t x = wholes64[i].x;

@@ -10,25 +10,31 @@ floating='%[xyz]mm|[[:space:]]f[a-z]+[[:space:]]+%?st'
 divides='[[:space:]]i?div[a-z]*[[:space:]]'
 # A call, or a jump out of the function, has a relocation of the kind PLT32.
 calls='[[:space:]]call[a-z]*[[:space:]]|R_X86_64_PLT32'
-checked=0
+# Each at two widths; halves have the roundings and two conversions.
+symbols=
 for name in $functions; do
-    case $name in
-    fmod) wrong="$floating" ;;
-    ldexp) wrong="$floating|$divides" ;;
+    symbols="$symbols ew_${name}_f64 ew_${name}_f32"
+done
+for name in floor_f16 ceil_f16 trunc_f16 round_f16 nearbyint_f16 f16_to_f32 f32_to_f16; do
+    symbols="$symbols ew_$name"
+done
+checked=0
+for symbol in $symbols; do
+    case $symbol in
+    ew_fmod_*) wrong="$floating" ;;
+    ew_ldexp_*) wrong="$floating|$divides" ;;
     *) wrong="$floating|$divides|$calls" ;;
     esac
-    for symbol in "ew_${name}_f64" "ew_${name}_f32"; do
-        code=$(objdump -dr --no-show-raw-insn --disassemble="$symbol" "$library" | sed -n "/<$symbol>:/,\$p")
-        if [ -z "$code" ]; then
-            echo "$symbol is not in $library" >&2
-            exit 1
-        fi
-        if echo "$code" | grep -E "$wrong"; then
-            echo "$symbol: the lines above should not be there" >&2
-            exit 1
-        fi
-        checked=$((checked + 1))
-    done
+    code=$(objdump -dr --no-show-raw-insn --disassemble="$symbol" "$library" | sed -n "/<$symbol>:/,\$p")
+    if [ -z "$code" ]; then
+        echo "$symbol is not in $library" >&2
+        exit 1
+    fi
+    if echo "$code" | grep -E "$wrong"; then
+        echo "$symbol: the lines above should not be there" >&2
+        exit 1
+    fi
+    checked=$((checked + 1))
 done
 writable=$(objdump -h "$library" | awk '$2 ~ /^\.t?(data|bss)/ && $2 !~ /^\.data\.rel\.ro/ && $3 !~ /^0+$/ { print $2 }')
 if [ -n "$writable" ]; then

@@ -1,9 +1,10 @@
 /*
- * The same answers on every processor: a million patterns through every function at both widths, and recipes through ew_run, to be run
- * on processors that differ (tests/c/processors.sh) and compared. Linked statically, so that an emulator needs nothing else.
+ * The same answers on every processor: a million patterns through every function at both widths, every half through those that take
+ * one, and recipes through ew_run, to be run on processors that differ (tests/c/processors.sh) and compared. Linked
+ * statically, so that an emulator needs nothing else.
  *
  *     processors cpu                      what the processor says of itself
- *     processors functions                a checksum a function and width, and one over all of them
+ *     processors functions                a checksum a function and width (64, 32, 16; 0 where there is none), and one over all of them
  *     processors libm                     a checksum for each of the C library's functions, on the same patterns
  *     processors values NAME              all answers of one of the C library's functions, 8 bytes each
  *     processors runs FILE FIRST STRIDE   the answers to calls of a file, a line each: of buckets FIRST, FIRST + STRIDE, ..
@@ -19,7 +20,7 @@
 
 #include "estrenwind.h"
 
-enum { PATTERNS = 1000000 };
+enum { PATTERNS = 1000000, HALVES = 65536 };
 
 /* ---- Patterns ---- */
 
@@ -102,6 +103,34 @@ ONE(trunc)
 ONE(round)
 ONE(nearbyint)
 
+#define HALF(name) \
+    static uint64_t name##16(operands o, uint64_t h) { return hashed(h, ew_##name##_f16((uint16_t)o.x)); }
+HALF(floor)
+HALF(ceil)
+HALF(trunc)
+HALF(round)
+HALF(nearbyint)
+
+static uint64_t f16_to_f32(operands o, uint64_t h) { return hashed(h, ew_f16_to_f32((uint16_t)o.x)); }
+
+/*
+ * Of half of the floats the exponent is that of a half, or little less or more, and half of these are halfway between two halves, or right
+ * beside that, or a half.
+ */
+static uint64_t f32_to_f16(operands o, uint64_t h)
+{
+    ew_word16 r;
+    if (word() % 2 == 0) {
+        const uint64_t scale = word() % 46; /* from 2^-27 to 2^18 */
+        const uint64_t below_halfway = scale < 2 ? 23 : scale < 13 ? 25 - scale : 12;
+        const uint64_t x = (o.x & 0x807fffff) | (127 - 27 + scale) << 23, multiple = x >> below_halfway << below_halfway;
+        const uint64_t choice = word() % 6;
+        o.x = choice < 3 ? x : choice < 4 ? multiple - 1 : choice < 5 ? multiple : multiple + 1;
+    }
+    r = ew_f32_to_f16((uint32_t)o.x);
+    return hashed(hashed(h, r.word), r.refusal);
+}
+
 #define TWO(name) \
     static uint64_t name##64(operands o, uint64_t h) { return hashed(h, ew_##name##_f64(o.x, o.y)); } \
     static uint64_t name##32(operands o, uint64_t h) { return hashed(h, ew_##name##_f32((uint32_t)o.x, (uint32_t)o.y)); }
@@ -141,11 +170,12 @@ PAIR(nextafter, word, refusal, x, y)
 
 static const struct {
     const char *name;
-    uint64_t (*f64)(operands, uint64_t), (*f32)(operands, uint64_t);
+    uint64_t (*f64)(operands, uint64_t), (*f32)(operands, uint64_t), (*f16)(operands, uint64_t); /* NULL where there is none */
 } functions[] = {
-#define ROW(name) {#name, name##64, name##32}
-    ROW(classify), ROW(fabs), ROW(negate), ROW(floor), ROW(ceil), ROW(trunc), ROW(round), ROW(nearbyint), ROW(lround), ROW(modf), ROW(frexp),
-    ROW(ldexp), ROW(fmod), ROW(nextafter), ROW(fmin), ROW(fmax),
+#define ROW(name) {#name, name##64, name##32, NULL}
+#define ROW3(name) {#name, name##64, name##32, name##16}
+    ROW(classify), ROW(fabs), ROW(negate), ROW3(floor), ROW3(ceil), ROW3(trunc), ROW3(round), ROW3(nearbyint), ROW(lround), ROW(modf), ROW(frexp),
+    ROW(ldexp), ROW(fmod), ROW(nextafter), ROW(fmin), ROW(fmax), {"f16_to_f32", NULL, NULL, f16_to_f32}, {"f32_to_f16", NULL, f32_to_f16, NULL},
 };
 
 static void all_functions(void)
@@ -153,15 +183,18 @@ static void all_functions(void)
     uint64_t all = 0;
     size_t f;
     for (f = 0; f < sizeof functions / sizeof functions[0]; f++) {
-        uint64_t hash64 = 0, hash32 = 0;
+        uint64_t hash64 = 0, hash32 = 0, hash16 = 0;
         int i;
         state = 1;
-        for (i = 0; i < PATTERNS; i++)
+        for (i = 0; i < PATTERNS && functions[f].f64 != NULL; i++)
             hash64 = functions[f].f64(next(52, 11), hash64);
-        for (i = 0; i < PATTERNS; i++)
+        for (i = 0; i < PATTERNS && functions[f].f32 != NULL; i++)
             hash32 = functions[f].f32(next(23, 8), hash32);
-        printf("%-12s %016llx %016llx\n", functions[f].name, (unsigned long long)hash64, (unsigned long long)hash32);
-        all = hashed(hashed(all, hash64), hash32);
+        for (i = 0; i < HALVES && functions[f].f16 != NULL; i++)
+            hash16 = functions[f].f16((operands){(uint64_t)i, 0, 0}, hash16);
+        printf("%-12s %016llx %016llx %016llx\n", functions[f].name, (unsigned long long)hash64, (unsigned long long)hash32,
+               (unsigned long long)hash16);
+        all = hashed(hashed(hashed(all, hash64), hash32), hash16);
     }
     printf("all %016llx\n", (unsigned long long)all);
 }
@@ -291,17 +324,19 @@ static void cpu(void)
 {
     unsigned a, b = 0, c = 0, d, unused, brand[12];
     char name[sizeof brand + 1];
-    int sse4_1, fma, avx2;
+    int sse4_1, fma, f16c, avx2;
     __get_cpuid(1, &a, &unused, &c, &d);
     sse4_1 = (c & bit_SSE4_1) != 0;
     fma = (c & bit_FMA) != 0;
+    f16c = (c & bit_F16C) != 0;
     avx2 = __get_cpuid_count(7, 0, &a, &b, &c, &d) && (b & bit_AVX2) != 0;
     memset(brand, 0, sizeof brand);
     for (a = 0; a < 3; a++)
         __get_cpuid(0x80000002 + a, &brand[4 * a], &brand[4 * a + 1], &brand[4 * a + 2], &brand[4 * a + 3]);
     memcpy(name, brand, sizeof brand);
     name[sizeof brand] = 0;
-    printf("SSE4.1 %s, AVX2 %s, FMA %s (%s)\n", sse4_1 ? "yes" : "no", avx2 ? "yes" : "no", fma ? "yes" : "no", name);
+    printf("SSE4.1 %s, AVX2 %s, FMA %s, F16C %s (%s)\n", sse4_1 ? "yes" : "no", avx2 ? "yes" : "no", fma ? "yes" : "no",
+           f16c ? "yes" : "no", name);
 }
 
 int main(int count, char **words)

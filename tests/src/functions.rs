@@ -3,13 +3,14 @@
 use crate::answer::Answer;
 use crate::library::*;
 use crate::operands::Operands;
-use crate::reference::{fmod, ldexp, order, parts, rounding, short, Format, BINARY32, BINARY64};
+use crate::reference::{conversion, fmod, ldexp, order, parts, rounding, short};
+use crate::reference::{Format, BINARY16, BINARY32, BINARY64};
 
 /// A library function on up to two operands. A pattern narrower than 64 bits stands in the low
 /// ones, a signed number as its two's complement.
 pub type Library = fn(u64, u64) -> Answer;
 
-/// A reference function, over the format.
+/// A reference function, over the format of its operands.
 pub type Reference = fn(&Format, u64, u64) -> Answer;
 
 pub struct Function {
@@ -18,21 +19,24 @@ pub struct Function {
     /// one.
     pub number: u8,
     pub operands: Operands,
-    pub binary64: Library,
-    pub binary32: Library,
+    /// The library's function at each format of an operand that it is there for.
+    pub library: &'static [(Format, Library)],
     /// The authority.
     pub reference: Reference,
     /// The same answers at speed, for billions of patterns.
     pub short: Reference,
 }
 
-pub const FUNCTIONS: [Function; 16] = [
+pub const FUNCTIONS: [Function; 18] = [
     Function {
         name: "floor",
         number: 0x10,
         operands: Operands::Pattern,
-        binary64: |x, _| Answer::word(ew_floor_f64(x)),
-        binary32: |x, _| Answer::word(ew_floor_f32(x as u32).into()),
+        library: &[
+            (BINARY64, |x, _| Answer::word(ew_floor_f64(x))),
+            (BINARY32, |x, _| Answer::word(ew_floor_f32(x as u32).into())),
+            (BINARY16, |x, _| Answer::word(ew_floor_f16(x as u16).into())),
+        ],
         reference: |format, x, _| Answer::word(rounding::floor(format, x)),
         short: |format, x, _| Answer::word(short::rounding::floor(format, x)),
     },
@@ -40,8 +44,11 @@ pub const FUNCTIONS: [Function; 16] = [
         name: "ceil",
         number: 0x11,
         operands: Operands::Pattern,
-        binary64: |x, _| Answer::word(ew_ceil_f64(x)),
-        binary32: |x, _| Answer::word(ew_ceil_f32(x as u32).into()),
+        library: &[
+            (BINARY64, |x, _| Answer::word(ew_ceil_f64(x))),
+            (BINARY32, |x, _| Answer::word(ew_ceil_f32(x as u32).into())),
+            (BINARY16, |x, _| Answer::word(ew_ceil_f16(x as u16).into())),
+        ],
         reference: |format, x, _| Answer::word(rounding::ceil(format, x)),
         short: |format, x, _| Answer::word(short::rounding::ceil(format, x)),
     },
@@ -49,8 +56,11 @@ pub const FUNCTIONS: [Function; 16] = [
         name: "trunc",
         number: 0x12,
         operands: Operands::Pattern,
-        binary64: |x, _| Answer::word(ew_trunc_f64(x)),
-        binary32: |x, _| Answer::word(ew_trunc_f32(x as u32).into()),
+        library: &[
+            (BINARY64, |x, _| Answer::word(ew_trunc_f64(x))),
+            (BINARY32, |x, _| Answer::word(ew_trunc_f32(x as u32).into())),
+            (BINARY16, |x, _| Answer::word(ew_trunc_f16(x as u16).into())),
+        ],
         reference: |format, x, _| Answer::word(rounding::trunc(format, x)),
         short: |format, x, _| Answer::word(short::rounding::trunc(format, x)),
     },
@@ -58,8 +68,11 @@ pub const FUNCTIONS: [Function; 16] = [
         name: "round",
         number: 0x13,
         operands: Operands::Pattern,
-        binary64: |x, _| Answer::word(ew_round_f64(x)),
-        binary32: |x, _| Answer::word(ew_round_f32(x as u32).into()),
+        library: &[
+            (BINARY64, |x, _| Answer::word(ew_round_f64(x))),
+            (BINARY32, |x, _| Answer::word(ew_round_f32(x as u32).into())),
+            (BINARY16, |x, _| Answer::word(ew_round_f16(x as u16).into())),
+        ],
         reference: |format, x, _| Answer::word(rounding::round(format, x)),
         short: |format, x, _| Answer::word(short::rounding::round(format, x)),
     },
@@ -67,8 +80,15 @@ pub const FUNCTIONS: [Function; 16] = [
         name: "nearbyint",
         number: 0x14,
         operands: Operands::Pattern,
-        binary64: |x, _| Answer::word(ew_nearbyint_f64(x)),
-        binary32: |x, _| Answer::word(ew_nearbyint_f32(x as u32).into()),
+        library: &[
+            (BINARY64, |x, _| Answer::word(ew_nearbyint_f64(x))),
+            (BINARY32, |x, _| {
+                Answer::word(ew_nearbyint_f32(x as u32).into())
+            }),
+            (BINARY16, |x, _| {
+                Answer::word(ew_nearbyint_f16(x as u16).into())
+            }),
+        ],
         reference: |format, x, _| Answer::word(rounding::nearbyint(format, x)),
         short: |format, x, _| Answer::word(short::rounding::nearbyint(format, x)),
     },
@@ -76,8 +96,10 @@ pub const FUNCTIONS: [Function; 16] = [
         name: "modf",
         number: 0x15,
         operands: Operands::Pattern,
-        binary64: |x, _| ew_modf_f64(x).into(),
-        binary32: |x, _| ew_modf_f32(x as u32).into(),
+        library: &[
+            (BINARY64, |x, _| ew_modf_f64(x).into()),
+            (BINARY32, |x, _| ew_modf_f32(x as u32).into()),
+        ],
         reference: |format, x, _| parts::modf(format, x),
         short: |format, x, _| short::parts::modf(format, x),
     },
@@ -85,8 +107,10 @@ pub const FUNCTIONS: [Function; 16] = [
         name: "fabs",
         number: 0x16,
         operands: Operands::Pattern,
-        binary64: |x, _| Answer::word(ew_fabs_f64(x)),
-        binary32: |x, _| Answer::word(ew_fabs_f32(x as u32).into()),
+        library: &[
+            (BINARY64, |x, _| Answer::word(ew_fabs_f64(x))),
+            (BINARY32, |x, _| Answer::word(ew_fabs_f32(x as u32).into())),
+        ],
         reference: |format, x, _| Answer::word(format.fabs(x)),
         short: |format, x, _| Answer::word(format.fabs(x)),
     },
@@ -94,8 +118,12 @@ pub const FUNCTIONS: [Function; 16] = [
         name: "negate",
         number: 0x17,
         operands: Operands::Pattern,
-        binary64: |x, _| Answer::word(ew_negate_f64(x)),
-        binary32: |x, _| Answer::word(ew_negate_f32(x as u32).into()),
+        library: &[
+            (BINARY64, |x, _| Answer::word(ew_negate_f64(x))),
+            (BINARY32, |x, _| {
+                Answer::word(ew_negate_f32(x as u32).into())
+            }),
+        ],
         reference: |format, x, _| Answer::word(format.negate(x)),
         short: |format, x, _| Answer::word(format.negate(x)),
     },
@@ -103,8 +131,10 @@ pub const FUNCTIONS: [Function; 16] = [
         name: "lround",
         number: 0x18,
         operands: Operands::Pattern,
-        binary64: |x, _| ew_lround_f64(x).into(),
-        binary32: |x, _| ew_lround_f32(x as u32).into(),
+        library: &[
+            (BINARY64, |x, _| ew_lround_f64(x).into()),
+            (BINARY32, |x, _| ew_lround_f32(x as u32).into()),
+        ],
         reference: |format, x, _| rounding::lround(format, x),
         short: |format, x, _| short::rounding::lround(format, x),
     },
@@ -112,17 +142,43 @@ pub const FUNCTIONS: [Function; 16] = [
         name: "classify",
         number: 0x19,
         operands: Operands::Pattern,
-        binary64: |x, _| Answer::word(ew_classify_f64(x).into()),
-        binary32: |x, _| Answer::word(ew_classify_f32(x as u32).into()),
+        library: &[
+            (BINARY64, |x, _| Answer::word(ew_classify_f64(x).into())),
+            (BINARY32, |x, _| {
+                Answer::word(ew_classify_f32(x as u32).into())
+            }),
+        ],
         reference: |format, x, _| Answer::word(format.classify(x) as u64),
         short: |format, x, _| Answer::word(format.classify(x) as u64),
+    },
+    Function {
+        name: "f16_to_f32",
+        number: 0x1a,
+        operands: Operands::Pattern,
+        library: &[(BINARY16, |x, _| {
+            Answer::word(ew_f16_to_f32(x as u16).into())
+        })],
+        reference: |format, x, _| conversion::converted(format, &BINARY32, x),
+        short: |format, x, _| short::conversion::converted(format, &BINARY32, x),
+    },
+    Function {
+        name: "f32_to_f16",
+        number: 0x1b,
+        operands: Operands::PatternToHalf,
+        library: &[(BINARY32, |x, _| ew_f32_to_f16(x as u32).into())],
+        reference: |format, x, _| conversion::converted(format, &BINARY16, x),
+        short: |format, x, _| short::conversion::converted(format, &BINARY16, x),
     },
     Function {
         name: "fmin",
         number: 0x20,
         operands: Operands::Patterns,
-        binary64: |x, y| Answer::word(ew_fmin_f64(x, y)),
-        binary32: |x, y| Answer::word(ew_fmin_f32(x as u32, y as u32).into()),
+        library: &[
+            (BINARY64, |x, y| Answer::word(ew_fmin_f64(x, y))),
+            (BINARY32, |x, y| {
+                Answer::word(ew_fmin_f32(x as u32, y as u32).into())
+            }),
+        ],
         reference: |format, x, y| Answer::word(order::fmin(format, x, y)),
         short: |format, x, y| Answer::word(short::order::fmin(format, x, y)),
     },
@@ -130,8 +186,12 @@ pub const FUNCTIONS: [Function; 16] = [
         name: "fmax",
         number: 0x21,
         operands: Operands::Patterns,
-        binary64: |x, y| Answer::word(ew_fmax_f64(x, y)),
-        binary32: |x, y| Answer::word(ew_fmax_f32(x as u32, y as u32).into()),
+        library: &[
+            (BINARY64, |x, y| Answer::word(ew_fmax_f64(x, y))),
+            (BINARY32, |x, y| {
+                Answer::word(ew_fmax_f32(x as u32, y as u32).into())
+            }),
+        ],
         reference: |format, x, y| Answer::word(order::fmax(format, x, y)),
         short: |format, x, y| Answer::word(short::order::fmax(format, x, y)),
     },
@@ -139,8 +199,10 @@ pub const FUNCTIONS: [Function; 16] = [
         name: "fmod",
         number: 0x22,
         operands: Operands::Patterns,
-        binary64: |x, y| ew_fmod_f64(x, y).into(),
-        binary32: |x, y| ew_fmod_f32(x as u32, y as u32).into(),
+        library: &[
+            (BINARY64, |x, y| ew_fmod_f64(x, y).into()),
+            (BINARY32, |x, y| ew_fmod_f32(x as u32, y as u32).into()),
+        ],
         reference: |format, x, y| fmod::fmod(format, x, y),
         short: |format, x, y| short::fmod::fmod(format, x, y),
     },
@@ -148,8 +210,10 @@ pub const FUNCTIONS: [Function; 16] = [
         name: "ldexp",
         number: 0x23,
         operands: Operands::PatternAndWhole,
-        binary64: |x, n| ew_ldexp_f64(x, n as i64).into(),
-        binary32: |x, n| ew_ldexp_f32(x as u32, n as i64).into(),
+        library: &[
+            (BINARY64, |x, n| ew_ldexp_f64(x, n as i64).into()),
+            (BINARY32, |x, n| ew_ldexp_f32(x as u32, n as i64).into()),
+        ],
         reference: |format, x, n| ldexp::ldexp(format, x, n as i64),
         short: |format, x, n| short::ldexp::ldexp(format, x, n as i64),
     },
@@ -157,8 +221,10 @@ pub const FUNCTIONS: [Function; 16] = [
         name: "nextafter",
         number: 0x24,
         operands: Operands::Patterns,
-        binary64: |x, y| ew_nextafter_f64(x, y).into(),
-        binary32: |x, y| ew_nextafter_f32(x as u32, y as u32).into(),
+        library: &[
+            (BINARY64, |x, y| ew_nextafter_f64(x, y).into()),
+            (BINARY32, |x, y| ew_nextafter_f32(x as u32, y as u32).into()),
+        ],
         reference: |format, x, y| order::nextafter(format, x, y),
         short: |format, x, y| short::order::nextafter(format, x, y),
     },
@@ -166,18 +232,25 @@ pub const FUNCTIONS: [Function; 16] = [
         name: "frexp",
         number: 0x25,
         operands: Operands::Pattern,
-        binary64: |x, _| ew_frexp_f64(x).into(),
-        binary32: |x, _| ew_frexp_f32(x as u32).into(),
+        library: &[
+            (BINARY64, |x, _| ew_frexp_f64(x).into()),
+            (BINARY32, |x, _| ew_frexp_f32(x as u32).into()),
+        ],
         reference: |format, x, _| parts::frexp(format, x),
         short: |format, x, _| short::parts::frexp(format, x),
     },
 ];
 
-/// The formats that every function has.
+/// The formats of document 01, which all its functions have.
 pub const FORMATS: [Format; 2] = [BINARY64, BINARY32];
 
+/// The same and the halves of W-201, which have the five roundings.
+pub const ROUNDED_FORMATS: [Format; 3] = [BINARY64, BINARY32, BINARY16];
+
 pub fn format_of_width(width: u32) -> Option<&'static Format> {
-    FORMATS.iter().find(|format| format.width() == width)
+    ROUNDED_FORMATS
+        .iter()
+        .find(|format| format.width() == width)
 }
 
 impl Function {
@@ -185,12 +258,25 @@ impl Function {
         FUNCTIONS.iter().find(|function| function.name == name)
     }
 
+    /// The formats of an operand that the library has the function for.
+    pub fn formats(&self) -> impl Iterator<Item = &'static Format> {
+        self.library.iter().map(|(format, _)| format)
+    }
+
+    pub fn is_at(&self, format: &Format) -> bool {
+        self.formats().any(|other| other == format)
+    }
+
     /// The library's function at this format.
     pub fn library(&self, format: &Format) -> Library {
-        match *format {
-            BINARY64 => self.binary64,
-            BINARY32 => self.binary32,
-            _ => panic!("the library has no {}-bit functions", format.width()),
+        let mut functions = self.library.iter();
+        match functions.find(|(other, _)| other == format) {
+            Some((_, function)) => *function,
+            None => panic!(
+                "the library has no {} of {} bits",
+                self.name,
+                format.width()
+            ),
         }
     }
 }

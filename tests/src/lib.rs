@@ -1,8 +1,8 @@
 //! Tests of the Estrenwind library against an independent second implementation.
 //!
-//! The second implementation is `reference`, in exact whole numbers, written from document 01.
-//! `functions` is the table that joins it with the library: every test walks over that table, so a
-//! new function is a new row.
+//! The second implementation is `reference`, in exact whole numbers, written from document 01 and
+//! the requests after it. `functions` is the table that joins it with the library: every test walks
+//! over that table, so a new function is a new row.
 
 pub mod answer;
 pub mod comparison;
@@ -11,6 +11,7 @@ pub mod environment;
 pub mod functions;
 pub mod interpreter;
 pub mod library;
+pub mod narrowing;
 pub mod operands;
 pub mod pairs;
 pub mod patterns;

@@ -44,6 +44,19 @@ impl From<Word32> for Answer {
     }
 }
 
+/// A pattern and the refusal number, `ew_word16` of the header.
+#[repr(C)]
+pub struct Word16 {
+    word: u16,
+    refusal: u64,
+}
+
+impl From<Word16> for Answer {
+    fn from(word: Word16) -> Answer {
+        Answer::refused(word.refusal, word.word.into())
+    }
+}
+
 /// Both parts of a number, `ew_parts64` of the header.
 #[repr(C)]
 pub struct Parts64 {
@@ -220,14 +233,19 @@ unsafe extern "C" {
     ) -> SheetAnswer;
     pub safe fn ew_floor_f64(x: u64) -> u64;
     pub safe fn ew_floor_f32(x: u32) -> u32;
+    pub safe fn ew_floor_f16(x: u16) -> u16;
     pub safe fn ew_ceil_f64(x: u64) -> u64;
     pub safe fn ew_ceil_f32(x: u32) -> u32;
+    pub safe fn ew_ceil_f16(x: u16) -> u16;
     pub safe fn ew_trunc_f64(x: u64) -> u64;
     pub safe fn ew_trunc_f32(x: u32) -> u32;
+    pub safe fn ew_trunc_f16(x: u16) -> u16;
     pub safe fn ew_round_f64(x: u64) -> u64;
     pub safe fn ew_round_f32(x: u32) -> u32;
+    pub safe fn ew_round_f16(x: u16) -> u16;
     pub safe fn ew_nearbyint_f64(x: u64) -> u64;
     pub safe fn ew_nearbyint_f32(x: u32) -> u32;
+    pub safe fn ew_nearbyint_f16(x: u16) -> u16;
     pub safe fn ew_fabs_f64(x: u64) -> u64;
     pub safe fn ew_fabs_f32(x: u32) -> u32;
     pub safe fn ew_negate_f64(x: u64) -> u64;
@@ -250,4 +268,6 @@ unsafe extern "C" {
     pub safe fn ew_fmin_f32(x: u32, y: u32) -> u32;
     pub safe fn ew_fmax_f64(x: u64, y: u64) -> u64;
     pub safe fn ew_fmax_f32(x: u32, y: u32) -> u32;
+    pub safe fn ew_f16_to_f32(x: u16) -> u32;
+    pub safe fn ew_f32_to_f16(x: u32) -> Word16;
 }

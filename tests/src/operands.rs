@@ -1,14 +1,16 @@
 //! What a function takes, and what it is tried on.
 
 use crate::patterns::Random;
-use crate::reference::Format;
-use crate::{pairs, patterns, scalings};
+use crate::reference::{Format, BINARY16};
+use crate::{narrowing, pairs, patterns, scalings};
 
 /// The operands of a function. A case always has two words; one that isn't used is 0.
 #[derive(Clone, Copy, Debug, PartialEq, Eq)]
 pub enum Operands {
     /// One pattern.
     Pattern,
+    /// One pattern, which is rounded to a half.
+    PatternToHalf,
     /// Two patterns.
     Patterns,
     /// A pattern and a whole number of 64 bits, as its two's complement.
@@ -16,10 +18,19 @@ pub enum Operands {
 }
 
 impl Operands {
+    /// Whether one pattern is all that the function takes.
+    pub fn is_one_pattern(&self) -> bool {
+        matches!(self, Operands::Pattern | Operands::PatternToHalf)
+    }
+
     /// The cases where a mistake would sit.
     pub fn edges(&self, format: &Format) -> Vec<[u64; 2]> {
         match self {
             Operands::Pattern => patterns::edges(format)
+                .into_iter()
+                .map(|x| [x, 0])
+                .collect(),
+            Operands::PatternToHalf => narrowing::edges(format, &BINARY16)
                 .into_iter()
                 .map(|x| [x, 0])
                 .collect(),
@@ -34,10 +45,16 @@ impl Operands {
         }
     }
 
+    /// Whether the edges are all the cases that there are: random ones would add nothing.
+    pub fn edges_are_all(&self, format: &Format) -> bool {
+        *self == Operands::Pattern && patterns::edges_are_all(format)
+    }
+
     /// A random case.
     pub fn random(&self, format: &Format, random: &mut Random) -> [u64; 2] {
         match self {
             Operands::Pattern => [random.pattern(format), 0],
+            Operands::PatternToHalf => [random.narrowed(format, &BINARY16), 0],
             Operands::Patterns => random.pair(format),
             Operands::PatternAndWhole => random.scaling(format),
         }
@@ -47,7 +64,7 @@ impl Operands {
     pub fn digits(&self, format: &Format) -> Vec<usize> {
         let digits = format.width() as usize / 4;
         match self {
-            Operands::Pattern => vec![digits],
+            Operands::Pattern | Operands::PatternToHalf => vec![digits],
             Operands::Patterns => vec![digits, digits],
             Operands::PatternAndWhole => vec![digits, 16],
         }

@@ -17,10 +17,18 @@ fn bits_below_half(format: &Format, exponent_field: u64) -> u32 {
     (format.fraction_bits as i64 - above_half).clamp(0, format.fraction_bits as i64) as u32
 }
 
-/// Patterns where a mistake would sit, of both signs. Every exponent field with the fractions at
+/// Whether a format has so few patterns that all are tried: halves have.
+pub fn edges_are_all(format: &Format) -> bool {
+    format.width() <= 16
+}
+
+/// Patterns where a mistake would sit, of both signs. Of a narrow format all of them. Else every exponent field with the fractions at
 /// its ends and its middle; the first and last subnormal number of every size; where rounding
 /// happens, also the first and last multiples of 1/2 in the field, with their neighbours.
 pub fn edges(format: &Format) -> Vec<u64> {
+    if edges_are_all(format) {
+        return (0..1 << format.width()).collect();
+    }
     let field_size = 1 << format.fraction_bits;
     let half = field_size / 2;
     let ones = field_size - 1;
@@ -132,8 +140,14 @@ impl Random {
 #[cfg(test)]
 mod tests {
     use super::*;
-    use crate::reference::{Class, BINARY32, BINARY64};
+    use crate::reference::{Class, BINARY16, BINARY32, BINARY64};
     use std::collections::HashSet;
+
+    #[test]
+    fn every_half_is_an_edge() {
+        assert!(edges(&BINARY16).into_iter().eq(0..65_536));
+        assert!(![BINARY64, BINARY32].iter().any(edges_are_all));
+    }
 
     #[test]
     fn edges_hold_every_field_and_every_boundary() {

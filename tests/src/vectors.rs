@@ -1,20 +1,22 @@
 //! The cases of `vectors/`, and the lines in which programs read and answer them.
 //!
 //! A case is a line `function width operand ..`, operands in hexadecimal with all their digits; a
-//! power of two has 16, as its two's complement. From a `#` on, a line is for its reader. The files hold no answers: the reference gives them.
+//! power of two has 16, as its two's complement. The width is that of the operand. From a `#` on, a
+//! line is for its reader. The files hold no answers: the reference gives them.
 
 use crate::answer::Answer;
 use crate::functions::{format_of_width, Function};
 use crate::reference::Format;
 
 /// Names and texts, in the order in which programs get their cases.
-const FILES: [(&str, &str); 6] = [
+const FILES: [(&str, &str); 7] = [
     ("roundings.txt", include_str!("../vectors/roundings.txt")),
     ("parts.txt", include_str!("../vectors/parts.txt")),
     ("scalings.txt", include_str!("../vectors/scalings.txt")),
     ("remainders.txt", include_str!("../vectors/remainders.txt")),
     ("neighbours.txt", include_str!("../vectors/neighbours.txt")),
     ("extremes.txt", include_str!("../vectors/extremes.txt")),
+    ("halves.txt", include_str!("../vectors/halves.txt")),
 ];
 
 pub struct Case {
@@ -42,6 +44,9 @@ fn parse(line: &str) -> Option<Case> {
     let mut words = line.split_whitespace();
     let function = Function::named(words.next()?)?;
     let format = format_of_width(words.next()?.parse().ok()?)?;
+    if !function.is_at(format) {
+        return None;
+    }
     let mut operands = [0; 2];
     for (operand, digits) in operands.iter_mut().zip(function.operands.digits(format)) {
         let word = words.next().filter(|word| word.len() == digits)?;
@@ -88,6 +93,13 @@ mod tests {
 
         let case = parse("ldexp 32 3f800000 ffffffffffffff6a").unwrap();
         assert_eq!(case.operands, [0x3f80_0000, -150i64 as u64]);
+
+        let case = parse("nearbyint 16 c100").unwrap();
+        assert_eq!((case.function.name, case.format.width()), ("nearbyint", 16));
+        assert_eq!(case.operands, [0xc100, 0]);
+
+        let case = parse("f32_to_f16 32 477ff000").unwrap();
+        assert_eq!(case.operands, [0x477f_f000, 0]);
     }
 
     /// A line with a mistake must not pass as some other case.
@@ -108,6 +120,10 @@ mod tests {
             "ldexp 32 bf000000",
             "ldexp 32 bf000000 ffffff6a",
             "ldexp 64 bfe0000000000000 -150",
+            "floor 16 bf000000",
+            "lround 16 b800",
+            "f16_to_f32 32 3f800000",
+            "f32_to_f16 16 3c00",
         ] {
             assert!(parse(line).is_none(), "{line}");
         }

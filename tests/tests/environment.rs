@@ -12,11 +12,13 @@ use std::panic;
 
 const DEFAULT: Environment = ENVIRONMENTS[0];
 
-/// The edges, and `count` random cases.
+/// The edges, and `count` random cases where these are not all.
 fn cases(function: &Function, format: &Format, count: usize) -> Vec<[u64; 2]> {
     let mut random = Random::new(0x100 + function.number as u64);
     let mut cases = function.operands.edges(format);
-    cases.extend((0..count).map(|_| function.operands.random(format, &mut random)));
+    if !function.operands.edges_are_all(format) {
+        cases.extend((0..count).map(|_| function.operands.random(format, &mut random)));
+    }
     cases
 }
 

@@ -42,7 +42,7 @@ fn the_library_and_the_reference_give_the_marked_answers() {
     for (name, [x, y], answer) in MARKED {
         let function = Function::named(name).unwrap();
         let case = format!("{name} {x:x} {y:x}");
-        assert_eq!((function.binary64)(x, y), answer, "library, {case}");
+        assert_eq!(function.library(&BINARY64)(x, y), answer, "library, {case}");
         assert_eq!(
             (function.reference)(&BINARY64, x, y),
             answer,

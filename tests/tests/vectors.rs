@@ -1,6 +1,6 @@
 //! The cases of `vectors/` through the library, and the lines that programs exchange.
 
-use estrenwind_tests::functions::{FORMATS, FUNCTIONS};
+use estrenwind_tests::functions::FUNCTIONS;
 use estrenwind_tests::vectors::cases;
 use std::collections::HashSet;
 use std::process::Command;
@@ -16,10 +16,11 @@ fn the_library_answers_as_the_reference_does() {
 
 #[test]
 fn every_function_has_cases_at_every_width() {
+    let cases = cases();
     for function in &FUNCTIONS {
-        for format in &FORMATS {
+        for format in function.formats() {
             let (name, width) = (function.name, format.width());
-            let has_case = cases()
+            let has_case = cases
                 .iter()
                 .any(|case| case.function.name == name && case.format == format);
             assert!(has_case, "{name} {width}");

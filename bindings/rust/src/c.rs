@@ -1,4 +1,4 @@
-//! The C functions as they are, on bit patterns: `u64` for a double, `u32` for a float.
+//! The C functions as they are, on bit patterns: `u64` for a double, `u32` for a float, `u16` for a half.
 //!
 //! A field `refusal` is 0 where nothing is refused. The header `estrenwind.h` states each function's answer; the functions of the crate's
 //! root cite it.
@@ -27,6 +27,15 @@ pub struct Word64 {
 #[allow(missing_docs)]
 pub struct Word32 {
     pub word: u32,
+    pub refusal: u64,
+}
+
+/// A half's pattern and the refusal's number.
+#[repr(C)]
+#[derive(Clone, Copy, Debug, PartialEq, Eq)]
+#[allow(missing_docs)]
+pub struct Word16 {
+    pub word: u16,
     pub refusal: u64,
 }
 
@@ -98,14 +107,19 @@ unsafe extern "C" {
     pub safe fn ew_negate_f32(x: u32) -> u32;
     pub safe fn ew_floor_f64(x: u64) -> u64;
     pub safe fn ew_floor_f32(x: u32) -> u32;
+    pub safe fn ew_floor_f16(x: u16) -> u16;
     pub safe fn ew_ceil_f64(x: u64) -> u64;
     pub safe fn ew_ceil_f32(x: u32) -> u32;
+    pub safe fn ew_ceil_f16(x: u16) -> u16;
     pub safe fn ew_trunc_f64(x: u64) -> u64;
     pub safe fn ew_trunc_f32(x: u32) -> u32;
+    pub safe fn ew_trunc_f16(x: u16) -> u16;
     pub safe fn ew_round_f64(x: u64) -> u64;
     pub safe fn ew_round_f32(x: u32) -> u32;
+    pub safe fn ew_round_f16(x: u16) -> u16;
     pub safe fn ew_nearbyint_f64(x: u64) -> u64;
     pub safe fn ew_nearbyint_f32(x: u32) -> u32;
+    pub safe fn ew_nearbyint_f16(x: u16) -> u16;
     pub safe fn ew_lround_f64(x: u64) -> Whole;
     pub safe fn ew_lround_f32(x: u32) -> Whole;
     pub safe fn ew_modf_f64(x: u64) -> Parts64;
@@ -122,6 +136,8 @@ unsafe extern "C" {
     pub safe fn ew_fmin_f32(x: u32, y: u32) -> u32;
     pub safe fn ew_fmax_f64(x: u64, y: u64) -> u64;
     pub safe fn ew_fmax_f32(x: u32, y: u32) -> u32;
+    pub safe fn ew_f16_to_f32(x: u16) -> u32;
+    pub safe fn ew_f32_to_f16(x: u32) -> Word16;
 
     /// Each pointer is good for as many elements as the length after it says, `words` for writing too.
     pub fn ew_run(

@@ -1,6 +1,6 @@
 //! Rounding, splitting, scaling and remainders of IEEE 754 numbers, exact to the last bit, and recipes of such steps.
 //!
-//! Every function takes and gives `f64` or `f32`. Every answer is worked out in whole-number arithmetic by the Estrenwind library, whose
+//! Every function takes and gives `f64` or `f32`; the module [`half`] has halves, as patterns. Every answer is worked out in whole-number arithmetic by the Estrenwind library, whose
 //! functions are proved: none depends on the processor, on the rounding mode, or on how subnormal numbers are treated.
 //!
 //! ```
@@ -30,6 +30,7 @@
 //! else from where `pkg-config` finds it. It is for x86-64.
 
 pub mod c;
+pub mod half;
 mod number;
 mod recipe;
 

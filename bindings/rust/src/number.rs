@@ -99,7 +99,7 @@ impl<T: fmt::Debug> Error for Refused<T> {}
 /// An answer, or a refusal with what stands in its place.
 pub type Answer<T> = Result<T, Refused<T>>;
 
-fn answer<T>(refusal: u64, value: T) -> Answer<T> {
+pub(crate) fn answer<T>(refusal: u64, value: T) -> Answer<T> {
     match refusal {
         0 => Ok(value),
         number => Err(Refused {

@@ -93,6 +93,64 @@ fn single_width() {
 }
 
 #[test]
+fn halves() {
+    for (half, float) in [
+        (0x0000, 0.0),
+        (0x8000, -0.0),
+        (0x0001, 2f32.powi(-24)),
+        (0x83ff, -1023.0 * 2f32.powi(-24)),
+        (0x0400, 2f32.powi(-14)),
+        (0xc100, -2.5),
+        (0x7bff, 65504.0),
+        (0xfc00, f32::NEG_INFINITY),
+    ] {
+        same32(half::to_f32(half), float);
+        assert_eq!(half::from_f32(float), Ok(half));
+    }
+    for (float, half) in [
+        (2f32.powi(-25), 0x0000),
+        (-2f32.powi(-25), 0x8000),
+        (2f32.powi(-25).next_up(), 0x0001),
+        (1.0 + 2f32.powi(-11), 0x3c00),
+        (1.0 + 3.0 * 2f32.powi(-11), 0x3c02),
+        (65520f32.next_down(), 0x7bff),
+    ] {
+        assert_eq!(half::from_f32(float), Ok(half), "{float}");
+    }
+    for (float, infinity) in [(65520.0, 0x7c00), (f32::MIN, 0xfc00)] {
+        let refused = half::from_f32(float).unwrap_err();
+        assert_eq!(refused.reason, Reason::OutOfRange);
+        assert_eq!(refused.value, infinity);
+    }
+    let [one_half, less] = [0x3800, 0x37ff];
+    assert_eq!(half::floor(one_half | 0x8000), 0xbc00);
+    assert_eq!(half::ceil(one_half | 0x8000), 0x8000);
+    assert_eq!(half::trunc(0xc2c0), 0xc200); // of -3.375: -3
+    assert_eq!(half::round(one_half), 0x3c00);
+    assert_eq!(half::round(less), 0x0000);
+    assert_eq!(half::nearbyint(0x4100), 0x4000); // of 2.5: 2
+}
+
+/// What the module's page says of its roundings, for every half.
+#[test]
+fn roundings_of_halves_are_those_of_floats() {
+    type Roundings = [(fn(u16) -> u16, fn(u32) -> u32); 5];
+    let roundings: Roundings = [
+        (half::floor, |x| c::ew_floor_f32(x)),
+        (half::ceil, |x| c::ew_ceil_f32(x)),
+        (half::trunc, |x| c::ew_trunc_f32(x)),
+        (half::round, |x| c::ew_round_f32(x)),
+        (half::nearbyint, |x| c::ew_nearbyint_f32(x)),
+    ];
+    for x in 0..=u16::MAX {
+        for (of_halves, of_floats) in roundings {
+            let half = c::ew_f32_to_f16(of_floats(c::ew_f16_to_f32(x)));
+            assert_eq!((of_halves(x), 0), (half.word, half.refusal), "{x:x}");
+        }
+    }
+}
+
+#[test]
 fn classes() {
     for (x, class) in [
         (f64::NAN, Class::Nan),
@@ -155,4 +213,8 @@ fn patterns() {
     assert_eq!(c::ew_floor_f64(0xfff0000000000001), 0xfff8000000000001);
     assert_eq!(c::ew_fabs_f64(0xfff0000000000001), 0x7ff0000000000001);
     assert_eq!(c::ew_negate_f32(0x7f800001), 0xff800001);
+    assert_eq!(c::ew_round_f16(0xfc01), 0xfe01);
+    assert_eq!(c::ew_f16_to_f32(0x7c01), 0x7fc02000);
+    let half = c::ew_f32_to_f16(0xff803fff);
+    assert_eq!((half.word, half.refusal), (0xfe01, 0));
 }

@@ -1,6 +1,7 @@
 // The C library: each exported function is one call of the layer that has it. include/estrenwind.h declares them.
 use float_format::Binary32;
 use float_format::Binary64;
+use float_format::Word16;
 use float_format::Word32;
 use float_format::Word64;
 use scaling::Frexp32;
@@ -12,9 +13,10 @@ use splitting::Patterns64;
 ghost use mathlib.Core.Path.{_≡_};
 ghost use mathlib.Core.List.{List};
 ghost use lib.ListN.{length};
-ghost use Rattle.float_format.specs.Format.{binary32, binary64, classify, classNumber, absolute, negated};
+ghost use Rattle.float_format.specs.Format.{binary16, binary32, binary64, classify, classNumber, absolute, negated};
 ghost use Rattle.float_format.specs.Rounding.{integral, lroundRefusal, lroundValue};
 ghost use Rattle.float_format.specs.declared.Direction.the-variants.{Down, Up, TowardZero, HalfAway, HalfEven};
+ghost use Rattle.conversion.specs.Conversion.{converted, convertedRefusal};
 ghost use Rattle.splitting.specs.Splitting.{modfWhole, modfFraction};
 ghost use Rattle.scaling.specs.Scaling.{frexpFraction, frexpExponent, ldexp, ldexpRefusal};
 ghost use Rattle.remainder.specs.Remainder.{fmod, fmodRefusal};
@@ -48,6 +50,13 @@ pub extern "C" fn ew_floor_f32(x: u32) -> u32
 }
 
 #[no_mangle]
+pub extern "C" fn ew_floor_f16(x: u16) -> u16
+    ensures { λ r. ⌜ r ≡ integral binary16 Down x ⌝ }
+{
+    rounding::binary16::floor(x)
+}
+
+#[no_mangle]
 pub extern "C" fn ew_ceil_f64(x: u64) -> u64
     ensures { λ r. ⌜ r ≡ integral binary64 Up x ⌝ }
 {
@@ -59,6 +68,13 @@ pub extern "C" fn ew_ceil_f32(x: u32) -> u32
     ensures { λ r. ⌜ r ≡ integral binary32 Up x ⌝ }
 {
     rounding::binary32::ceil(x)
+}
+
+#[no_mangle]
+pub extern "C" fn ew_ceil_f16(x: u16) -> u16
+    ensures { λ r. ⌜ r ≡ integral binary16 Up x ⌝ }
+{
+    rounding::binary16::ceil(x)
 }
 
 #[no_mangle]
@@ -76,6 +92,13 @@ pub extern "C" fn ew_trunc_f32(x: u32) -> u32
 }
 
 #[no_mangle]
+pub extern "C" fn ew_trunc_f16(x: u16) -> u16
+    ensures { λ r. ⌜ r ≡ integral binary16 TowardZero x ⌝ }
+{
+    rounding::binary16::trunc(x)
+}
+
+#[no_mangle]
 pub extern "C" fn ew_round_f64(x: u64) -> u64
     ensures { λ r. ⌜ r ≡ integral binary64 HalfAway x ⌝ }
 {
@@ -90,6 +113,13 @@ pub extern "C" fn ew_round_f32(x: u32) -> u32
 }
 
 #[no_mangle]
+pub extern "C" fn ew_round_f16(x: u16) -> u16
+    ensures { λ r. ⌜ r ≡ integral binary16 HalfAway x ⌝ }
+{
+    rounding::binary16::round(x)
+}
+
+#[no_mangle]
 pub extern "C" fn ew_nearbyint_f64(x: u64) -> u64
     ensures { λ r. ⌜ r ≡ integral binary64 HalfEven x ⌝ }
 {
@@ -101,6 +131,13 @@ pub extern "C" fn ew_nearbyint_f32(x: u32) -> u32
     ensures { λ r. ⌜ r ≡ integral binary32 HalfEven x ⌝ }
 {
     rounding::binary32::nearbyint(x)
+}
+
+#[no_mangle]
+pub extern "C" fn ew_nearbyint_f16(x: u16) -> u16
+    ensures { λ r. ⌜ r ≡ integral binary16 HalfEven x ⌝ }
+{
+    rounding::binary16::nearbyint(x)
 }
 
 #[no_mangle]
@@ -263,6 +300,20 @@ pub extern "C" fn ew_fmax_f32(x: u32, y: u32) -> u32
     ensures { λ r. ⌜ r ≡ fmax binary32 x y ⌝ }
 {
     ordering::binary32::fmax(x, y)
+}
+
+#[no_mangle]
+pub extern "C" fn ew_f16_to_f32(x: u16) -> u32
+    ensures { λ r. ⌜ r ≡ converted binary16 binary32 x ⌝ }
+{
+    conversion::import(x)
+}
+
+#[no_mangle]
+pub extern "C" fn ew_f32_to_f16(x: u32) -> Word16
+    ensures { λ r. ⌜ (r .word ≡ converted binary32 binary16 x) × (r .refusal ≡ convertedRefusal binary32 binary16 x) ⌝ }
+{
+    conversion::export(x)
 }
 
 #[no_mangle]

@@ -9,15 +9,12 @@ use native.Mathlib.Nat.{mod-lt, div-add-mod', mul-le-mul-right}
 use native.Mathlib.Omega.{arith}
 use lib.Dec.{leb, ltb, eqb}
 use borrow.Author.Tests.{eq-eqb, ne-eqb, lt-ltb, le-ltb, ltb-true, ltb-false, leb-true, leb-false, eqb-true, eqb-false}
+use Rattle.float_format.specs.Number.{distance}
 use Rattle.float_format.specs.Rounding.{goesAway, parts}
 use Rattle.float_format.specs.declared.Direction.{Direction}
 use Rattle.float_format.specs.declared.Direction.the-variants.{Down, Up, HalfAway, HalfEven}
 use Rattle.float_format.proofs.Units.{lt-or-ge, three-way}
 use Rattle.float_format.proofs.Parts.{parts-at}
-
--- how far apart two numbers are
-abbrev pub distance : ℕ → ℕ → ℕ
-distance a b = (a - b) + (b - a)
 
 -- ---- multiples of u
 

@@ -9,7 +9,7 @@ use native.Mathlib.Omega.{arith}
 use lib.Bits.{or-lt}
 use lib.Pow.{pow-pos, pow-mono, pow-add, pow-lt, suc-ones}
 use borrow.Author.Tests.{eq-eqb, ne-eqb, lt-ltb, le-ltb}
-use Rattle.float_format.specs.Format.{Format, Valid, signBit, topField, infinity, negative, unsigned, signed, quieted}
+use Rattle.float_format.specs.Format.{Format, Valid, signBit, topField, infinity, defaultNan, negative, unsigned, signed, quieted}
 use Rattle.float_format.specs.Number.{bias}
 use Rattle.float_format.specs.Rounding.{goesAway, wholePart, integral}
 use Rattle.float_format.specs.declared.Direction.{Direction}
@@ -130,3 +130,9 @@ integral-lt f d x v p =
 
     of-nan : quieted f x < 2 * signBit f
     of-nan = quieted-lt f x v p
+
+-- ---- the default NaN is a pattern
+
+pub default-nan-lt : (f : Format) → Valid f → defaultNan f < signBit f
+default-nan-lt f v =
+    omega (arith, room f (bias f) v refl .top, pow-lt {i = f .fraction - 1} {j = f .fraction} (omega (arith, v .some-fraction)))

@@ -9,7 +9,7 @@ use native.Mathlib.Nat.{eq-or-lt-of-le, le-antisymm, mul-mod-left, mul-le-mul-ri
 use native.Mathlib.Omega.{arith}
 use lib.Pow.{pow-pos}
 use Rattle.float_format.specs.Format.{Format, Valid, signBit, infinity, negative, unsigned, signed, negated}
-use Rattle.float_format.specs.Number.{magnitude, bias, one, AtMost}
+use Rattle.float_format.specs.Number.{magnitude, bias, one, AtMost, unitsOf}
 use Rattle.float_format.specs.Rounding.{parts, wholePart, integral}
 use Rattle.float_format.specs.declared.Direction.{Direction}
 use Rattle.float_format.specs.declared.Direction.the-variants.{Down, Up}
@@ -17,7 +17,7 @@ use Rattle.float_format.proofs.Units.{magnitude-mono-le, magnitude-canc
 use Rattle.float_format.proofs.Patterns.{below-sign, negative-signed, unsigned-signed, signed-lt, signed-parts}
 use Rattle.float_format.proofs.Parts.{parts-whole, parts-mono}
 use Rattle.float_format.proofs.Integral.{integral-infinite, integral-finite, room, Answer, answer}
-use Rattle.float_format.proofs.Order.{unitsOf, magnitude-zero, infinity-below-sign, negative-negated, unsigned-negated, negated-is, negated-twice, rank-at, rank-order}
+use Rattle.float_format.proofs.Order.{magnitude-zero, infinity-below-sign, negative-negated, unsigned-negated, negated-is, negated-twice, rank-at, rank-order}
 use Rattle.float_format.proofs.Bounds.{parts-turned}
 
 -- ---- a finite pattern's result: x's sign, and units that are a number of ones

@@ -1,4 +1,5 @@
 -- Laws of the definitions, over the open width: first what the proofs here and above are made of, then what a user would state.
+pub mod Powers
 pub mod Widths
 pub mod Table
 pub mod Units
@@ -13,3 +14,8 @@ pub mod Bounds
 pub mod Laws
 pub mod Lround
 pub mod Nearest
+pub mod Monotone
+pub mod Nearby
+pub mod Shifting
+pub mod Rounded
+pub mod Floats

@@ -9,12 +9,12 @@ use Prim.Native.Nat.{ℕ, _+_, _-_, _*_, _/_, _%_, _≤_, _<_}
 use native.Mathlib.Nat.{mul-div-cancel, mul-le-mul-right}
 use native.Mathlib.Omega.{arith}
 use Rattle.float_format.specs.Format.{Format, Valid, infinity, negative, unsigned, negated}
-use Rattle.float_format.specs.Number.{one, above, under, AtMost}
+use Rattle.float_format.specs.Number.{one, above, under, AtMost, unitsOf, distance}
 use Rattle.float_format.specs.Rounding.{parts, wholePart, integral}
 use Rattle.float_format.specs.declared.Direction.{Direction}
 use Rattle.float_format.specs.declared.Direction.the-variants.{Down, Up, TowardZero, HalfAway, HalfEven}
-use Rattle.float_format.proofs.Order.{unitsOf, above-at, under-at, unsigned-negated, above-negated, under-negated}
-use Rattle.float_format.proofs.Bounds.{distance, multiple-le, Within, parts-cut, parts-cover, Near, Nearer, half-away-near, half-even-near, near-nearest, near-away, near-only}
+use Rattle.float_format.proofs.Order.{above-at, under-at, unsigned-negated, above-negated, under-negated}
+use Rattle.float_format.proofs.Bounds.{multiple-le, Within, parts-cut, parts-cover, Near, Nearer, half-away-near, half-even-near, near-nearest, near-away, near-only}
 use Rattle.float_format.proofs.Laws.{one-pos, result, mirror-finite}
 
 -- ---- integers against a pattern's number

@@ -9,13 +9,9 @@ use native.Mathlib.Nat.{le-antisymm}
 use native.Mathlib.Omega.{arith}
 use lib.Pow.{pow-pos, pow-add, suc-ones}
 use Rattle.float_format.specs.Format.{Format, signBit, infinity, negative, unsigned, signed, negated}
-use Rattle.float_format.specs.Number.{magnitude, above, under, AtMost, rank}
+use Rattle.float_format.specs.Number.{magnitude, unitsOf, above, under, AtMost, rank}
 use Rattle.float_format.proofs.Units.{lt-or-ge, magnitude-low, magnitude-mono, magnitude-mono-le, magnitude-cancel}
 use Rattle.float_format.proofs.Patterns.{below-sign, negative-signed, unsigned-signed, signed-parts}
-
--- how many units x's number lies from zero
-abbrev pub unitsOf : Format → ℕ → ℕ
-unitsOf f x = magnitude (f .fraction) (unsigned f x)
 
 -- ---- a total order
 

@@ -4,7 +4,7 @@
 use mathlib.Core.Path.{_≡_, refl, sym, ap, _∙_}
 use mathlib.Core.Logic.{_⊎_, inl, inr, ⊎-elim}
 use mathlib.Core.Bool.{Bool, true, false}
-use Prim.Native.Nat.{ℕ, suc, _+_, _-_, _*_, _/_, _%_, _^_, _≤_, _<_}
+use Prim.Native.Nat.{ℕ, zero, suc, _+_, _-_, _*_, _/_, _%_, _^_, _≤_, _<_}
 use native.Mathlib.Nat.{le-antisymm, le-trans, lt-of-lt-of-le, lt-of-not-le, lt-irrefl, mul-div-cancel, mod-lt, le-div-iff-mul-le, div-add-mod', div-eq-of-lt, mod-eq-of-lt, eq-or-lt-of-le, mul-le-mul-right, mul-lt-mul-of-pos-right, pow-suc, mul-le-mul-left, mul-le-mul}
 use native.Mathlib.Omega.{arith}
 use lib.Dec.{ltb}
@@ -162,3 +162,33 @@ magnitude-mono-le F {a} {b} h = ⊎-elim (λ e. omega (arith, ap (magnitude F) e
 -- and so the other way round
 pub magnitude-cancel : (F : ℕ) {a b : ℕ} → magnitude F a ≤ magnitude F b → a ≤ b
 magnitude-cancel F {a} {b} h = ⊎-elim (λ l. omega (arith, magnitude-mono F l)) (λ g. g) (lt-or-ge b a)
+
+-- ---- what the format holds
+
+-- some pattern stands for n units
+pub record Held (F n : ℕ) : Type 0 where
+  pub pattern : ℕ
+  pub units : n ≡ magnitude F pattern
+
+pub held-small : (F m : ℕ) → m < 2 * 2 ^ F → Held F m
+held-small F m h = ⊎-elim (λ l. record { pattern = m; units = sym (magnitude-low F m l) }) (λ g. from g) (lt-or-ge m (2 ^ F))
+  where
+    from : 2 ^ F ≤ m → Held F m
+    from g = record { pattern = m; units = sym (ap (magnitude F) (omega arith) ∙ magnitude-at F 0 m g (omega arith) ∙ omega arith) }
+
+-- m * 2 ^ j, for every m that fits a significand: doubled until its leading one is in place, or no scale is left
+pub held : (F m j : ℕ) → m < 2 * 2 ^ F → Held F (m * 2 ^ j)
+held F m zero h = rw (one-times m) (held-small F m h)
+  where
+    one-times : (m : ℕ) → m * 2 ^ 0 ≡ m
+    one-times m = omega arith
+held F m (suc j) h =
+    ⊎-elim (λ l. rw (twice m j) (held F (m * 2) j (omega arith))) (λ g. record { pattern = suc j * 2 ^ F + m; units = sym (magnitude-at F (suc j) m g (omega arith)) })
+    (lt-or-ge m (2 ^ F))
+  where
+    twice : (m j : ℕ) → m * 2 ^ suc j ≡ m * 2 * 2 ^ j
+    twice m j = omega (arith, ap (λ (p : ℕ). m * p) (pow-suc 2 j))
+
+-- its pattern then stands for it
+pub held-units : (F m j : ℕ) → m < 2 * 2 ^ F → magnitude F (encode F (m * 2 ^ j)) ≡ m * 2 ^ j
+held-units F m j h = let t = held F m j h in magnitude-encode F (m * 2 ^ j) (t .pattern) (t .units)

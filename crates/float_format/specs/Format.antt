@@ -21,6 +21,9 @@ binary64 = record { fraction = 52; exponent = 11 }
 abbrev pub binary32 : Format
 binary32 = record { fraction = 23; exponent = 8 }
 
+abbrev pub binary16 : Format
+binary16 = record { fraction = 10; exponent = 5 }
+
 -- What the laws over an open format ask of it: one half and one are normal numbers, and the numbers that are all whole begin below
 -- infinity. Every interchange format has this.
 pub record Valid (f : Format) : Type 0 where
@@ -32,7 +35,7 @@ pub record Valid (f : Format) : Type 0 where
 abbrev pub signBit : Format → ℕ
 signBit f = 2 ^ (f .exponent + f .fraction)
 
--- the largest exponent field: 2047, 255
+-- the largest exponent field: 2047, 255, 31
 abbrev pub topField : Format → ℕ
 topField f = 2 ^ f .exponent - 1
 
@@ -44,7 +47,7 @@ infinity f = topField f * 2 ^ f .fraction
 abbrev pub quietBit : Format → ℕ
 quietBit f = 2 ^ (f .fraction - 1)
 
--- 7ff8000000000000, 7fc00000
+-- 7ff8000000000000, 7fc00000, 7e00
 abbrev pub defaultNan : Format → ℕ
 defaultNan f = infinity f + quietBit f
 

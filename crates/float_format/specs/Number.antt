@@ -1,5 +1,5 @@
 -- The number that a pattern stands for, as a whole number of units, and the order of numbers (document 01, "Numbers as whole
--- numbers"). A unit is the format's smallest subnormal: 2^-1074, 2^-149. An infinity's pattern counts by the same rule, which puts it
+-- numbers"). A unit is the format's smallest subnormal: 2^-1074, 2^-149, 2^-24. An infinity's pattern counts by the same rule, which puts it
 -- beyond every finite number. Definitions only; assumes nothing.
 use mathlib.Core.Bool.{Bool, cond}
 use Prim.Native.Nat.{ℕ, suc, _+_, _-_, _*_, _/_, _%_, _^_, _≤_}
@@ -24,6 +24,14 @@ bias f = 2 ^ (f .exponent - 1) - 1
 
 abbrev pub one : Format → ℕ
 one f = 2 ^ (bias f + f .fraction - 1)
+
+-- the units of a pattern, without its sign
+abbrev pub unitsOf : Format → ℕ → ℕ
+unitsOf f x = magnitude (f .fraction) (unsigned f x)
+
+-- how far two numbers of units are apart
+abbrev pub distance : ℕ → ℕ → ℕ
+distance a b = (a - b) + (b - a)
 
 -- ---- order
 

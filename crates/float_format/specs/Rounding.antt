@@ -1,12 +1,13 @@
 -- Rounding to whole numbers (document 01, "Function rules": floor, ceil, trunc, round, nearbyint, lround). Definitions only; assumes
 -- nothing.
 use mathlib.Core.Bool.{Bool, false, not, _&&_, _||_, cond}
-use Prim.Native.Nat.{ℕ, _+_, _*_, _/_, _%_, _^_}
+use Prim.Native.Nat.{ℕ, suc, _+_, _-_, _*_, _/_, _%_, _^_}
 use lib.Dec.{leb, ltb, eqb}
 use lib.IntN.{ℤ, pos, negℤ}
+use lib.Ieee.{size}
 use Rattle.float_format.specs.declared.Direction.{Direction}
 use Rattle.float_format.specs.declared.Direction.the-variants.{Down, Up, TowardZero, HalfAway, HalfEven}
-use Rattle.float_format.specs.Format.{Format, negative, unsigned, signed, isNan, isInfinite, quieted}
+use Rattle.float_format.specs.Format.{Format, infinity, negative, unsigned, signed, isNan, isInfinite, quieted}
 use Rattle.float_format.specs.Number.{magnitude, encode, one}
 
 -- Whether a magnitude of q whole parts of u, and r past them, goes on to q + 1 and not back to q; s is the number's sign.
@@ -31,6 +32,21 @@ integral f d x =
     cond (isNan f x) (quieted f x)
     (cond (isInfinite f x) x
     (signed f (negative f x) (encode (f .fraction) (wholePart f d x * one f))))
+
+-- ---- rounded to a format
+
+-- n / u units rounded once to a number of the format without an upper end, F being its fraction bits: of the digits of the whole part
+-- suc F are kept
+unfoldable pub nearest : ℕ → Direction → Bool → ℕ → ℕ → ℕ
+nearest F d s n u = parts d s n (u * 2 ^ (size (n / u) - suc F)) * 2 ^ (size (n / u) - suc F)
+
+-- a pattern without its sign, or infinity's from there on
+abbrev pub capped : Format → ℕ → ℕ
+capped f a = cond (ltb a (infinity f)) a (infinity f)
+
+-- n / u units with the sign s, rounded once, halves to even, as a pattern
+unfoldable pub rounded : Format → Bool → ℕ → ℕ → ℕ
+rounded f s n u = signed f s (capped f (encode (f .fraction) (nearest (f .fraction) HalfEven s n u)))
 
 -- ---- lround
 

@@ -1,6 +1,6 @@
 // Formats of binary floating point: a type a width, with its field sizes, its default NaN and the functions that read a pattern.
 ghost use mathlib.Core.Path.{_≡_};
-ghost use Rattle.float_format.specs.Format.{binary32, binary64, classify, classNumber, isNan, quieted, absolute, negated};
+ghost use Rattle.float_format.specs.Format.{binary16, binary32, binary64, classify, classNumber, isNan, quieted, absolute, negated};
 ghost use Rattle.float_format.specs.Number.{rank};
 
 pub mod width;
@@ -48,6 +48,12 @@ pub struct Word64 {
 #[repr(C)]
 pub struct Word32 {
     pub word: u32,
+    pub refusal: u64,
+}
+
+#[repr(C)]
+pub struct Word16 {
+    pub word: u16,
     pub refusal: u64,
 }
 
@@ -196,5 +202,79 @@ impl Binary32 {
         ensures { λ r. ⌜ r ≡ rank binary32 x ⌝ }
     {
         width::rank(Self::FRACTION_BITS, Self::EXPONENT_BITS, x as u64) as u32
+    }
+}
+
+// binary16: the patterns of halves, as u16.
+pub struct Binary16 {}
+
+impl Binary16 {
+    pub const FRACTION_BITS: u64 = 10;
+
+    pub const EXPONENT_BITS: u64 = 5;
+
+    pub const SIGN: u16 = 0x8000;
+
+    pub const INFINITY: u16 = 0x7c00;
+
+    pub const SMALLEST_NORMAL: u16 = 0x0400;
+
+    pub const QUIET: u16 = 0x0200;
+
+    pub const DEFAULT_NAN: u16 = 0x7e00;
+
+    // The class of x.
+    pub fn classify(x: u16) -> Class
+        ensures { λ r. ⌜ r ≡ classify binary16 x ⌝ }
+    {
+        let a = x % Self::SIGN;
+        if a > Self::INFINITY {
+            return Class::Nan;
+        }
+        if a == Self::INFINITY {
+            return Class::Infinite;
+        }
+        if a == 0 {
+            return Class::Zero;
+        }
+        if a < Self::SMALLEST_NORMAL {
+            return Class::Subnormal;
+        }
+        Class::Normal
+    }
+
+    // Whether x is a NaN.
+    pub fn is_nan(x: u16) -> bool
+        ensures { λ r. ⌜ r ≡ isNan binary16 x ⌝ }
+    {
+        x % Self::SIGN > Self::INFINITY
+    }
+
+    // x with the top fraction bit set, which makes a NaN quiet.
+    pub fn quiet(x: u16) -> u16
+        ensures { λ r. ⌜ r ≡ quieted binary16 x ⌝ }
+    {
+        x | Self::QUIET
+    }
+
+    // x with its sign cleared, NaN included.
+    pub fn fabs(x: u16) -> u16
+        ensures { λ r. ⌜ r ≡ absolute binary16 x ⌝ }
+    {
+        x % Self::SIGN
+    }
+
+    // x with its sign flipped, NaN included.
+    pub fn negate(x: u16) -> u16
+        ensures { λ r. ⌜ r ≡ negated binary16 x ⌝ }
+    {
+        x ^ Self::SIGN
+    }
+
+    // A whole number by which patterns compare as their numbers do, the two zeros equal.
+    pub fn rank(x: u16) -> u16
+        ensures { λ r. ⌜ r ≡ rank binary16 x ⌝ }
+    {
+        width::rank(Self::FRACTION_BITS, Self::EXPONENT_BITS, x as u64) as u16
     }
 }

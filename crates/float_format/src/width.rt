@@ -1,10 +1,13 @@
 // A format's numbers with the width open: `fraction` and `exponent` are its field sizes, which each width's module hands over as
 // numbers, so that the compiler folds all of this. Not entry points: each asks that a pattern fits a word.
 ghost use mathlib.Core.Path.{_≡_};
+ghost use mathlib.Core.Bool.{false};
 ghost use Prim.Native.Nat.{_-_, _*_, _%_, _^_, _<_, _≤_};
 ghost use Rattle.float_format.specs.Format.{signBit, topField, infinity, unsigned, exponentField, quieted, propagated};
 ghost use Rattle.float_format.specs.Number.{encode, bias, rank};
+ghost use Rattle.float_format.specs.Rounding.{parts};
 ghost use Rattle.float_format.specs.Width.{format, InWord};
+ghost use Rattle.float_format.specs.declared.Direction.the-variants.{HalfEven};
 
 pub fn power(k: u64) -> u64
     requires { ⌜ k < 64 ⌝ }
@@ -123,4 +126,18 @@ pub fn encoded(fraction: u64, exponent: u64, m: u64, scale: u64) -> u64
     let k = leading_shift(fraction, m);
     let shift = if k < scale { k } else { scale };
     (scale - shift) * power(fraction) + m * power(shift)
+}
+
+// m / 2^d rounded, halves to even. Half of the unit is added before the shift, less one where the quotient is even, so that a tie
+// stays there.
+pub fn shifted(fraction: u64, m: u64, d: u64) -> u64
+    requires { ⌜ (fraction < 62) × (m < 2 * 2 ^ fraction) × (1 ≤ d) ⌝ }
+    ensures { λ r. ⌜ (r ≡ parts HalfEven false m (2 ^ d)) × (r ≤ 2 ^ fraction) ⌝ }
+{
+    if d > fraction + 1 {
+        return 0;
+    }
+    let unit = power(d);
+    let odd = m / unit % 2;
+    (m + (unit / 2 - 1 + odd)) / unit
 }

@@ -6,15 +6,13 @@ use Prim.Native.Nat.{ℕ, _+_, _-_, _*_, _/_, _%_, _^_, _≤_, _<_}
 use native.Mathlib.Nat.{mod-eq-of-lt, le-div-iff-mul-le, div-eq-of-lt}
 use native.Mathlib.Omega.{arith}
 use lib.Dec.{leb, ltb, eqb}
-use lib.Pow.{pow-pos, pow-lt}
+use lib.Pow.{pow-pos}
 use borrow.Author.Tests.{eq-eqb, ne-eqb, lt-ltb, le-ltb, le-leb, lt-leb, leb-false, eqb-false, ltb-true}
-use Rattle.float_format.specs.Format.{Format, Valid, signBit, infinity, defaultNan, negative, unsigned, signed, isNan, isInfinite, isZero, quieted}
-use Rattle.float_format.specs.Number.{magnitude, encode, bias}
+use Rattle.float_format.specs.Format.{Format, signBit, infinity, defaultNan, negative, unsigned, signed, isNan, isInfinite, isZero, quieted}
+use Rattle.float_format.specs.Number.{magnitude, encode, unitsOf}
 use Rattle.float_format.specs.Width.{InWord}
 use Rattle.float_format.proofs.Units.{lt-or-ge, magnitude-mono, encode-magnitude}
 use Rattle.float_format.proofs.Patterns.{nan-is, infinite-is, signed-parts}
-use Rattle.float_format.proofs.Integral.{room}
-use Rattle.float_format.proofs.Order.{unitsOf}
 use Rattle.remainder.specs.Remainder.{fmod, fmodRefusal, noRemainder}
 use Rattle.float_format.proofs.Sizes.{zero-is as signed-zero}
 use Rattle.remainder.specs.Shape.{isSpecial, scaleOf, Ordinary, Left}
@@ -183,7 +181,3 @@ module _ (f : Format) (x y : ℕ) where
 
       parts : t ≡ (leb (infinity f) (unsigned f x) || leb (infinity f) (unsigned f y))
       parts = rw (← ei, ← ea, ← eb) (merged came)
-
-pub default-nan-lt : (f : Format) → Valid f → defaultNan f < signBit f
-default-nan-lt f v =
-    omega (arith, room f (bias f) v refl .top, pow-lt {i = f .fraction - 1} {j = f .fraction} (omega (arith, v .some-fraction)))

@@ -9,13 +9,13 @@ use native.Mathlib.Nat.{div-add-mod', mod-lt, mod-le, le-antisymm, eq-zero-or-po
 use native.Mathlib.Omega.{arith}
 use lib.Arith.{digits-mod}
 use Rattle.float_format.specs.Format.{Format, Valid, signBit, infinity, defaultNan, negative, unsigned, signed, isNan, isInfinite, isZero, quieted}
-use Rattle.float_format.specs.Number.{magnitude, encode, above, under}
+use Rattle.float_format.specs.Number.{magnitude, encode, above, under, unitsOf}
 use Rattle.float_format.proofs.Units.{lt-or-ge, three-way, magnitude-mono, magnitude-cancel}
 use Rattle.float_format.proofs.Patterns.{negative-signed, unsigned-signed, signed-lt, signed-parts}
-use Rattle.float_format.proofs.Integral.{quieted-lt}
-use Rattle.float_format.proofs.Order.{unitsOf, magnitude-zero, infinity-below-sign, above-at, under-at}
+use Rattle.float_format.proofs.Integral.{quieted-lt, default-nan-lt}
+use Rattle.float_format.proofs.Order.{magnitude-zero, infinity-below-sign, above-at, under-at}
 use Rattle.remainder.specs.Remainder.{fmod, fmodRefusal, noRemainder}
-use Rattle.remainder.proofs.Cases.{Answers, nan-first, nan-second, no-remainder, infinite-divisor, finite-operands, either, default-nan-lt}
+use Rattle.remainder.proofs.Cases.{Answers, nan-first, nan-second, no-remainder, infinite-divisor, finite-operands, either}
 use Rattle.remainder.proofs.Exact.{remainder-exact}
 
 -- ---- finite x and y, y not zero

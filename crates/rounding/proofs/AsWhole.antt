@@ -11,12 +11,12 @@ use lib.IntN.{ℤ, natAbs}
 use lib.Signed.{nonNeg}
 use borrow.Author.Tests.{ltb-false, eqb-false, le-ltb, ne-eqb}
 use Rattle.float_format.specs.Format.{Format, Valid, infinity, negative, unsigned, isNan, isInfinite}
-use Rattle.float_format.specs.Number.{one, above, under}
+use Rattle.float_format.specs.Number.{one, above, under, unitsOf}
 use Rattle.float_format.specs.Rounding.{wholePart, integral, withSign, lroundRefusal, lroundValue}
 use Rattle.float_format.specs.declared.Direction.the-variants.{HalfAway}
 use Rattle.float_format.proofs.Units.{lt-or-ge}
 use Rattle.float_format.proofs.Patterns.{nan-is, infinite-is}
-use Rattle.float_format.proofs.Order.{unitsOf, above-at, under-at}
+use Rattle.float_format.proofs.Order.{above-at, under-at}
 use Rattle.float_format.proofs.Laws.{one-pos, Result, result}
 use Rattle.float_format.proofs.Lround.{InRange, lround-nan, lround-infinite, lround-accepts, lround-is}
 

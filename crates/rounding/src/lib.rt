@@ -23,6 +23,7 @@ use float_format::width::sign_bit;
 use float_format::width::signed_zero;
 use float_format::width::top_field;
 
+pub mod binary16;
 pub mod binary32;
 pub mod binary64;
 

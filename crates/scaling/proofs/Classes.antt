@@ -8,11 +8,12 @@ use native.Mathlib.Nat.{eq-or-lt-of-le, div-eq-of-lt, mod-eq-of-lt, le-div-iff-m
 use native.Mathlib.Omega.{arith}
 use lib.Dec.{ltb, eqb}
 use lib.IntN.{ℤ, pos, _-ℤ_}
-use lib.Ieee.{size}
+use lib.Ieee.{size, up, down}
 use lib.Pow.{pow-pos}
 use borrow.Author.Tests.{lt-ltb, le-ltb, eq-eqb, ne-eqb}
 use Rattle.float_format.specs.Format.{Format, Valid, signBit, infinity, negative, unsigned, signed, isNan, isInfinite, isZero, propagated}
-use Rattle.float_format.specs.Number.{magnitude, encode, bias, one}
+use Rattle.float_format.specs.Number.{magnitude, encode, bias, one, unitsOf}
+use Rattle.float_format.specs.Rounding.{capped, rounded}
 use Rattle.float_format.proofs.Units.{lt-or-ge}
 use Rattle.float_format.proofs.Patterns.{nan-is, infinite-is}
 use Rattle.float_format.proofs.Sizes.{zero-is}
@@ -107,9 +108,13 @@ module _ (f : Format) (x : ℕ) (some : 0 < unsigned f x) (h : unsigned f x < in
 
 -- ldexp, by whether the answer is in range
 module _ (f : Format) (x : ℕ) (n : ℤ) (h : unsigned f x < infinity f) where
-  pub ldexp-at : ldexp f x n ≡ signed f (negative f x) (cond (ltb (scaled f x n) (infinity f)) (scaled f x n) (infinity f))
+  pub ldexp-is : ldexp f x n ≡ rounded f (negative f x) (unitsOf f x * up n) (down n)
   unfolding ldexp
-  ldexp-at = simp (no-nan f x (omega arith), no-infinite f x h)
+  ldexp-is = simp (no-nan f x (omega arith), no-infinite f x h)
+
+  ldexp-at : ldexp f x n ≡ signed f (negative f x) (capped f (scaled f x n))
+  unfolding rounded scaled
+  ldexp-at = ldexp-is
 
   pub refusal-at : ldexpRefusal f x n ≡ cond (not (ltb (scaled f x n) (infinity f))) 3 0
   unfolding ldexpRefusal

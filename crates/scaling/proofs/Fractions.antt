@@ -19,7 +19,7 @@ use Rattle.scaling.specs.Scaling.{frexpFraction, frexpExponent}
 use Rattle.scaling.specs.Position.{Significand}
 use Rattle.scaling.proofs.Significands.{field-split, normal-significand, subnormal-significand}
 use Rattle.scaling.proofs.Classes.{signed-from-zero, frexp-fraction-at, frexp-exponent-at}
-use Rattle.scaling.proofs.Powers.{swap, powers, gather, double, suc-times, cancel-le, cancel-lt, cancel-right}
+use Rattle.float_format.proofs.Powers.{swap, powers, gather, double, suc-times, cancel-le, cancel-lt, cancel-right}
 
 module _ (f : Format) (x m : ℕ) (v : Valid f) (fore back : ℕ) (g : Significand f x m fore back) where
   abbrev units : ℕ

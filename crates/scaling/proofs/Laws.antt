@@ -3,35 +3,35 @@
 -- even; it overflows exactly from halfway past the largest finite number on; it keeps the sign and the order, in x and in n. Over
 -- every valid format. Assumes nothing.
 use mathlib.Core.Path.{_≡_, refl, sym, ap, _∙_}
-use mathlib.Core.Bool.{Bool, true, false, not, cond}
-use mathlib.Core.Logic.{_⊎_, inl, inr, ⊎-elim, _↔_}
+use mathlib.Core.Bool.{Bool, true, false}
+use mathlib.Core.Logic.{_⊎_, ⊎-elim, _↔_}
 use Prim.Native.Nat.{ℕ, suc, _+_, _-_, _*_, _%_, _^_, _≤_, _<_}
-use native.Mathlib.Nat.{mod-eq-of-lt, pow-suc, eq-or-lt-of-le, mul-assoc, mul-comm, mul-le-mul-left, mul-le-mul-right, mul-lt-mul-of-pos-right}
+use native.Mathlib.Nat.{eq-or-lt-of-le, mul-assoc, mul-comm, mul-le-mul-left, mul-le-mul-right, mul-lt-mul-of-pos-right}
 use native.Mathlib.Omega.{arith}
-use lib.Dec.{ltb}
 use lib.IntN.{ℤ, pos, _-ℤ_}
 use lib.Ieee.{up, down}
 use lib.Pow.{pow-pos}
 use lib.Signed.{_≤ℤ_}
-use borrow.Author.Tests.{lt-ltb, le-ltb}
-use Rattle.float_format.specs.Format.{Format, Valid, signBit, topField, infinity, negative, unsigned, signed, quieted}
-use Rattle.float_format.specs.Number.{magnitude, bias, one, above, under, AtMost}
+use Rattle.float_format.specs.Rounding.{nearest, capped, rounded}
+use Rattle.float_format.specs.Format.{Format, Valid, signBit, infinity, negative, unsigned, signed, quieted}
+use Rattle.float_format.specs.Number.{magnitude, bias, one, above, under, AtMost, unitsOf, distance}
 use Rattle.float_format.specs.declared.Direction.the-variants.{HalfEven}
-use Rattle.float_format.proofs.Units.{lt-or-ge, magnitude-at, magnitude-mono, magnitude-mono-le}
+use Rattle.float_format.proofs.Units.{lt-or-ge, magnitude-at, magnitude-mono-le}
 use Rattle.float_format.proofs.Patterns.{negative-signed, unsigned-signed, signed-parts, propagated-nan, propagated-number}
 use Rattle.float_format.proofs.Integral.{Room, room}
-use Rattle.float_format.proofs.Order.{unitsOf, magnitude-zero, infinity-below-sign, above-at, under-at}
-use Rattle.float_format.proofs.Bounds.{distance}
-use Rattle.scaling.specs.Scaling.{frexpFraction, frexpExponent, nearest, scaled, ldexp, ldexpRefusal}
+use Rattle.float_format.proofs.Order.{magnitude-zero, infinity-below-sign, above-at, under-at}
+use Rattle.scaling.specs.Scaling.{frexpFraction, frexpExponent, scaled, ldexp, ldexpRefusal}
 use Rattle.scaling.specs.Position.{Significand}
-use Rattle.scaling.proofs.Powers.{swap, powers, suc-times, product-pos, cancel-right}
+use Rattle.float_format.proofs.Powers.{swap, powers, suc-times, product-pos, cancel-right}
 use Rattle.scaling.proofs.Offsets.{down-pos, powers-order, difference-power}
-use Rattle.scaling.proofs.Nearest.{magnitude-same, NearestPattern, nearest-scale, nearest-units, rounds-nearest, keeps-order, reaches}
-use Rattle.scaling.proofs.Classes.{frexp-not-finite, frexp-zero, ldexp-not-finite, ldexp-at, ldexp-in, ldexp-out}
+use Rattle.float_format.proofs.Monotone.{Keeps, keeps-at-most}
+use Rattle.float_format.proofs.Nearby.{NearestPattern, nearest-scale, rounds-nearest, keeps-order}
+use Rattle.float_format.proofs.Rounded.{capped-in, capped-out, capped-most, capped-mono, rounded-rest, rounded-sign, largest, rounded-beyond, rounded-from-halfway, times-cond, rounded-nearest, rounded-even, rounded-no-nearer, rounded-halves}
+use Rattle.float_format.proofs.Rounded as round
+use Rattle.scaling.proofs.Classes.{frexp-not-finite, frexp-zero, ldexp-not-finite, ldexp-is, ldexp-in, ldexp-out}
 use Rattle.scaling.proofs.Significands.{Found, found}
 use Rattle.scaling.proofs.Fractions.{fraction-is, whole-units, exponent-is}
 use Rattle.scaling.proofs.Places.{zero-answer, scaled-nearest, scaled-exact}
-use Rattle.scaling.proofs.Monotone.{Keeps, keeps-at-most}
 
 -- ---- frexp: zeros and infinities unchanged, NaN quieted, exponent 0
 
@@ -129,33 +129,13 @@ module _ (f : Format) (x : ℕ) (n : ℤ) where
 
 -- ---- ldexp of a finite number: x's sign, and the rest of the pattern, up to infinity's
 
-abbrev capped : Format → ℕ → ℕ
-capped f r = cond (ltb r (infinity f)) r (infinity f)
-
-capped-in : (f : Format) {r : ℕ} → r < infinity f → capped f r ≡ r
-capped-in f {r} l = ap (λ (t : Bool). cond t r (infinity f)) (lt-ltb r (infinity f) l)
-
-capped-out : (f : Format) {r : ℕ} → infinity f ≤ r → capped f r ≡ infinity f
-capped-out f {r} g = ap (λ (t : Bool). cond t r (infinity f)) (le-ltb r (infinity f) g)
-
-capped-most : (f : Format) (r : ℕ) → capped f r ≤ infinity f
-capped-most f r = ⊎-elim (λ l. omega (arith, capped-in f l)) (λ g. omega (arith, capped-out f g)) (lt-or-ge r (infinity f))
-
-capped-mono : (f : Format) {r q : ℕ} → r ≤ q → capped f r ≤ capped f q
-capped-mono f {r} {q} h = ⊎-elim less (λ g. omega (arith, capped-most f r, capped-out f g)) (lt-or-ge q (infinity f))
-  where
-    less : q < infinity f → capped f r ≤ capped f q
-    less l = omega (arith, capped-in f {r = r} (omega arith), capped-in f l)
-
 module _ (f : Format) (x : ℕ) (n : ℤ) (h : unsigned f x < infinity f) where
-  small : capped f (scaled f x n) < signBit f
-  small = omega (arith, capped-most f (scaled f x n), infinity-below-sign f)
-
   sign-at : negative f (ldexp f x n) ≡ negative f x
-  sign-at = ap (negative f) (ldexp-at f x n h) ∙ negative-signed f (capped f (scaled f x n)) small (negative f x)
+  sign-at = ap (negative f) (ldexp-is f x n h) ∙ rounded-sign f (negative f x) (unitsOf f x * up n) (down n)
 
   rest-at : unsigned f (ldexp f x n) ≡ capped f (scaled f x n)
-  rest-at = ap (unsigned f) (ldexp-at f x n h) ∙ unsigned-signed f (capped f (scaled f x n)) small (negative f x)
+  unfolding scaled
+  rest-at = ap (unsigned f) (ldexp-is f x n h) ∙ rounded-rest f (negative f x) (unitsOf f x * up n) (down n)
 
   -- refusal 3 exactly where the rounding passes the largest finite number, and there the answer is an infinity
   refusal-range : ldexpRefusal f x n ≡ 3 ↔ infinity f ≤ scaled f x n
@@ -216,153 +196,61 @@ ldexp-frexp f x v p h = ⊎-elim (λ some. other (fraction f x v some h)) (λ no
 
 -- ---- the nearest number of the format
 
-module _ (f : Format) (x : ℕ) (n : ℤ) (v : Valid f) (h : unsigned f x < infinity f) (l : unsigned f (ldexp f x n) < infinity f) where
-  rest-is : unsigned f (ldexp f x n) ≡ scaled f x n
-  rest-is = rest-at f x n h ∙ capped-in f (in-range f x n h l)
-
-  -- by magnitudes: no number of the format is nearer to x times 2 ^ n, both sides times down n
-  pub ldexp-nearest : (z : ℕ) → distance (unitsOf f x * up n) (unitsOf f (ldexp f x n) * down n) ≤ distance (unitsOf f x * up n) (unitsOf f z * down n)
-  ldexp-nearest z = rw rest-is (scaled-nearest f x n v .nearest (unsigned f z))
-
-  -- where another is as near, the answer's pattern is even
-  pub ldexp-even : (z : ℕ) → distance (unitsOf f x * up n) (unitsOf f z * down n) ≡ distance (unitsOf f x * up n) (unitsOf f (ldexp f x n) * down n)
-      → unsigned f z ≡ unsigned f (ldexp f x n) ⊎ ldexp f x n % 2 ≡ 0
-  ldexp-even z e =
-      ⊎-elim (λ k. inl (k ∙ sym rest-is)) (λ k. inr (even k))
-      (scaled-nearest f x n v .even (unsigned f z) (e ∙ ap (λ (y : ℕ). distance (unitsOf f x * up n) (magnitude (f .fraction) y * down n)) rest-is))
-    where
-      even-sign : (s : Bool) → scaled f x n % 2 ≡ 0 → signed f s (scaled f x n) % 2 ≡ 0
-      even-sign true k =
-          let t : signBit f ≡ 2 ^ suc (f .exponent + f .fraction - 1) = ap (λ (y : ℕ). 2 ^ y) (omega (arith, v .some-fraction)) in
-          omega arith
-      even-sign false k = omega arith
-
-      even : scaled f x n % 2 ≡ 0 → ldexp f x n % 2 ≡ 0
-      even k = ap (λ (y : ℕ). y % 2) (ldexp-in f x n h (in-range f x n h l) .0) ∙ even-sign (negative f x) k
-
 -- how far z lies from x times 2 ^ n, both sides times down n and with their signs
 abbrev pub gap : Format → ℕ → ℤ → ℕ → ℕ
 gap f x n z = distance (above f x * up n + under f z * down n) (above f z * down n + under f x * up n)
 
-module _ (U Z : ℕ) where
-  like-signs : (s : Bool) → distance (cond s 0 U + cond s Z 0) (cond s 0 Z + cond s U 0) ≡ distance U Z
-  like-signs true = omega arith
-  like-signs false = omega arith
-
-  unlike-signs : (s : Bool) → distance (cond s 0 U + cond (not s) Z 0) (cond (not s) 0 Z + cond s U 0) ≡ U + Z
-  unlike-signs true = omega arith
-  unlike-signs false = omega arith
-
-times-cond : (s : Bool) (a t : ℕ) → (cond s 0 a * t ≡ cond s 0 (a * t)) × (cond s a 0 * t ≡ cond s (a * t) 0)
-times-cond true a t = (omega arith, refl)
-times-cond false a t = (refl, omega arith)
-
-gap-at : (f : Format) (x z : ℕ) (n : ℤ) (s t : Bool) → negative f x ≡ s → negative f z ≡ t
-    → gap f x n z
-    ≡ distance (cond s 0 (unitsOf f x * up n) + cond t (unitsOf f z * down n) 0) (cond t 0 (unitsOf f z * down n) + cond s (unitsOf f x * up n) 0)
-gap-at f x z n s t es et =
-    rw (above-at f x s es, under-at f x s es, above-at f z t et, under-at f z t et, times-cond s (unitsOf f x) (up n) .0, times-cond s (unitsOf f x) (up n) .1, times-cond t (unitsOf f z) (down n) .0, times-cond t (unitsOf f z) (down n) .1) refl
-
-same-or-not : (s t : Bool) → t ≡ s ⊎ t ≡ not s
-same-or-not true true = inl refl
-same-or-not true false = inr refl
-same-or-not false true = inr refl
-same-or-not false false = inl refl
+gap-is : (f : Format) (x : ℕ) (n : ℤ) (z : ℕ) → gap f x n z ≡ round.gap f (negative f x) (unitsOf f x * up n) (down n) z
+gap-is f x n z =
+    rw (above-at f x (negative f x) refl, under-at f x (negative f x) refl, times-cond (negative f x) (unitsOf f x) (up n) .0, times-cond (negative f x) (unitsOf f x) (up n) .1) refl
 
 module _ (f : Format) (x : ℕ) (n : ℤ) (v : Valid f) (h : unsigned f x < infinity f) (l : unsigned f (ldexp f x n) < infinity f) where
-  abbrev U : ℕ
-  U = unitsOf f x * up n
-
-  abbrev R : ℕ
-  R = unitsOf f (ldexp f x n) * down n
-
-  own-gap : gap f x n (ldexp f x n) ≡ distance U R
-  own-gap = gap-at f x (ldexp f x n) n (negative f x) (negative f x) refl (sign-at f x n h) ∙ like-signs U R (negative f x)
-
-  zero-rest : unsigned f 0 ≡ 0
-  zero-rest = mod-eq-of-lt (pow-pos (f .exponent + f .fraction))
-
-  -- zero lies U away
-  zero-units : unitsOf f 0 * down n ≡ 0
-  zero-units = ap (λ (y : ℕ). magnitude (f .fraction) y * down n) zero-rest ∙ ap (λ (y : ℕ). y * down n) (magnitude-zero (f .fraction)) ∙ omega arith
-
-  to-zero : distance U R ≤ U
-  to-zero = omega (arith, ldexp-nearest f x n v h l 0, zero-units)
+  finite : unsigned f (rounded f (negative f x) (unitsOf f x * up n) (down n)) < infinity f
+  finite = rw (ldexp-is f x n h) at l
 
   module _ (z : ℕ) where
-    like : negative f z ≡ negative f x → gap f x n z ≡ distance U (unitsOf f z * down n)
-    like e = gap-at f x z n (negative f x) (negative f x) refl e ∙ like-signs U (unitsOf f z * down n) (negative f x)
+    -- by magnitudes: no number of the format is nearer to x times 2 ^ n, both sides times down n
+    pub ldexp-nearest : distance (unitsOf f x * up n) (unitsOf f (ldexp f x n) * down n) ≤ distance (unitsOf f x * up n) (unitsOf f z * down n)
+    ldexp-nearest = rw (ldexp-is f x n h) (rounded-nearest f v (negative f x) (unitsOf f x * up n) (down n) (down-pos n) finite z)
 
-    unlike : negative f z ≡ not (negative f x) → gap f x n z ≡ U + unitsOf f z * down n
-    unlike e = gap-at f x z n (negative f x) (not (negative f x)) refl e ∙ unlike-signs U (unitsOf f z * down n) (negative f x)
+    -- where another is as near, the answer's pattern is even
+    pub ldexp-even : distance (unitsOf f x * up n) (unitsOf f z * down n) ≡ distance (unitsOf f x * up n) (unitsOf f (ldexp f x n) * down n)
+        → unsigned f z ≡ unsigned f (ldexp f x n) ⊎ ldexp f x n % 2 ≡ 0
+    ldexp-even = rw (ldexp-is f x n h) (rounded-even f v (negative f x) (unitsOf f x * up n) (down n) (down-pos n) finite z)
 
     -- with their signs: no number of the format is nearer to x times 2 ^ n than the answer
     pub ldexp-no-nearer : gap f x n (ldexp f x n) ≤ gap f x n z
     ldexp-no-nearer =
-        ⊎-elim (λ e. rw (own-gap, like e) (ldexp-nearest f x n v h l z)) (λ e. rw (own-gap, unlike e) (omega (arith, to-zero))) (same-or-not (negative f x) (negative f z))
+        rw (gap-is f x n (ldexp f x n), gap-is f x n z, ldexp-is f x n h) (rounded-no-nearer f v (negative f x) (unitsOf f x * up n) (down n) (down-pos n) finite z)
 
     -- halves to even: where z is as near, it is the answer but for a zero's sign, or the answer's pattern is even
     pub ldexp-halves : gap f x n z ≡ gap f x n (ldexp f x n) → unsigned f z ≡ unsigned f (ldexp f x n) ⊎ ldexp f x n % 2 ≡ 0
-    ldexp-halves e =
-        ⊎-elim (λ k. ldexp-even f x n v h l z (sym (like k) ∙ e ∙ own-gap)) (λ k. across (sym (unlike k) ∙ e ∙ own-gap)) (same-or-not (negative f x) (negative f z))
-      where
-        across : U + unitsOf f z * down n ≡ distance U R → unsigned f z ≡ unsigned f (ldexp f x n) ⊎ ldexp f x n % 2 ≡ 0
-        across k =
-            let none : unitsOf f z * down n ≡ 0 * down n = omega (arith, to-zero) in
-            let flat : unitsOf f z ≡ magnitude (f .fraction) 0 = cancel-right (down n) (down-pos n) none ∙ sym (magnitude-zero (f .fraction)) in
-            let rest : unsigned f z ≡ unsigned f 0 = magnitude-same (f .fraction) flat ∙ sym zero-rest in
-            ⊎-elim (λ y. inl (rest ∙ y)) inr (ldexp-even f x n v h l 0 (omega (arith, to-zero, zero-units)))
+    ldexp-halves =
+        rw (gap-is f x n (ldexp f x n), gap-is f x n z, ldexp-is f x n h) (rounded-halves f v (negative f x) (unitsOf f x * up n) (down n) (down-pos n) finite z)
 
 -- ---- overflow
 
--- the largest finite number, in units
-abbrev pub largest : Format → ℕ
-largest f = magnitude (f .fraction) (infinity f - 1)
+both : {A B C : Type 0} → A ↔ B → B ↔ C → A ↔ C
+both p q = (λ a. q .0 (p .0 a), λ c. p .1 (q .1 c))
 
 module _ (f : Format) (x : ℕ) (n : ℤ) (v : Valid f) (h : unsigned f x < infinity f) where
-  before : suc (infinity f - 1) ≡ infinity f
-  before = omega (arith, room f (bias f) v refl .whole, pow-pos (f .fraction))
-
-  scaled-units : magnitude (f .fraction) (scaled f x n) ≡ nearest (f .fraction) HalfEven (negative f x) (unitsOf f x * up n) (down n)
-  unfolding scaled
-  scaled-units = nearest-units (f .fraction) (negative f x) (unitsOf f x * up n) (down n) (down-pos n)
+  overflows : ldexpRefusal f x n ≡ 3 ↔ unsigned f (rounded f (negative f x) (unitsOf f x * up n) (down n)) ≡ infinity f
+  overflows = rw (ldexp-is f x n h) at (refused-is-infinite f x n h)
 
   -- exactly where x times 2 ^ n, rounded with no upper end, is beyond the largest finite number
   pub overflow-beyond-largest : ldexpRefusal f x n ≡ 3
       ↔ largest f < nearest (f .fraction) HalfEven (negative f x) (unitsOf f x * up n) (down n)
-  overflow-beyond-largest = (
-    λ e. rw (sym scaled-units) (magnitude-mono (f .fraction) (omega (arith, before, refusal-range f x n h .0 e))),
-    λ l. refusal-range f x n h .1 (⊎-elim (λ k. absurd (inside l k)) (λ g. g) (lt-or-ge (scaled f x n) (infinity f))),
-  )
-    where
-      inside : largest f < nearest (f .fraction) HalfEven (negative f x) (unitsOf f x * up n) (down n) → scaled f x n < infinity f → ⊥
-      inside l k = omega (arith, scaled-units, magnitude-mono-le (f .fraction) {a = scaled f x n} {b = infinity f - 1} (omega (arith, before)))
-
-  infinity-odd : (infinity f - 1) % 2 ≡ 1
-  infinity-odd =
-      let t : 2 ^ f .fraction ≡ 2 ^ (f .fraction - 1) * 2 = ap (λ (y : ℕ). 2 ^ y) (omega (arith, v .some-fraction)) ∙ pow-suc 2 (f .fraction - 1) in
-      let d : infinity f ≡ topField f * 2 ^ (f .fraction - 1) * 2 = ap (λ (y : ℕ). topField f * y) t ∙ sym (mul-assoc (topField f) (2 ^ (f .fraction - 1)) 2) in
-      omega (arith, before)
+  overflow-beyond-largest = both overflows (rounded-beyond f v (negative f x) (unitsOf f x * up n) (down n) (down-pos n))
 
   -- and that is from halfway on between the largest finite number and the power of two that follows it
   pub overflow-from-halfway : ldexpRefusal f x n ≡ 3
       ↔ largest f * down n + magnitude (f .fraction) (infinity f) * down n ≤ unitsOf f x * up n * 2
-  overflow-from-halfway = (
-    λ e. omega (arith, follows, halfway .0 (omega (arith, before, refusal-range f x n h .0 e))),
-    λ l. refusal-range f x n h .1 (omega (arith, before, halfway .1 (omega (arith, follows)))),
-  )
-    where
-      follows : magnitude (f .fraction) (suc (infinity f - 1)) * down n ≡ magnitude (f .fraction) (infinity f) * down n
-      follows = ap (λ (y : ℕ). magnitude (f .fraction) y * down n) before
-
-      halfway : suc (infinity f - 1) ≤ scaled f x n
-          ↔ largest f * down n + magnitude (f .fraction) (suc (infinity f - 1)) * down n ≤ unitsOf f x * up n * 2
-      halfway = reaches (f .fraction) (unitsOf f x * up n) (down n) (scaled f x n) (infinity f - 1) (down-pos n) (scaled-nearest f x n v) infinity-odd
+  overflow-from-halfway = both overflows (rounded-from-halfway f v (negative f x) (unitsOf f x * up n) (down n) (down-pos n))
 
 -- ---- the order is kept
 
 module _ (f : Format) (v : Valid f) where
-  keeps : (x : ℕ) (n : ℤ) → unsigned f x ≤ infinity f → Keeps f x (ldexp f x n)
+  keeps : (x : ℕ) (n : ℤ) → unsigned f x ≤ infinity f → Keeps f f x (ldexp f x n)
   keeps x n h = record { sign = ldexp-sign f x n h; zero = zero }
     where
       zero : unsigned f x ≡ 0 → unsigned f (ldexp f x n) ≡ 0
@@ -393,7 +281,7 @@ module _ (f : Format) (v : Valid f) where
   pub ldexp-monotone : (x y : ℕ) (n : ℤ) → unsigned f x ≤ infinity f → unsigned f y ≤ infinity f
       → AtMost f x y → AtMost f (ldexp f x n) (ldexp f y n)
   ldexp-monotone x y n hx hy =
-      keeps-at-most f x y (ldexp f x n) (ldexp f y n) (keeps x n hx) (keeps y n hy) (λ l e. rest-grows x y n hy l) (λ l e. rest-grows y x n hx l)
+      keeps-at-most f f x y (ldexp f x n) (ldexp f y n) (keeps x n hx) (keeps y n hy) (λ l e. rest-grows x y n hy l) (λ l e. rest-grows y x n hx l)
 
   module _ (x : ℕ) (n m : ℤ) (le : n ≤ℤ m) (h : unsigned f x ≤ infinity f) where
     -- over one denominator

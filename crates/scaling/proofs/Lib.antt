@@ -1,10 +1,7 @@
 -- Laws over the open width, and in the shape of the code.
-pub mod Powers
-pub mod Nearest
 pub mod Offsets
 pub mod Classes
 pub mod Significands
 pub mod Places
 pub mod Fractions
-pub mod Monotone
 pub mod Laws

@@ -15,7 +15,7 @@ use mir.ValLaws.{toZ-pos}
 use borrow.Author.Tests.{ltb-true, ltb-false, lt-ltb, le-ltb}
 use Rattle.float_format.proofs.Units.{lt-or-ge}
 use Rattle.scaling.specs.Position.{raise, lower, Offset}
-use Rattle.scaling.proofs.Powers.{powers}
+use Rattle.float_format.proofs.Powers.{powers}
 
 -- ---- a power of two as its up part and its down part
 

@@ -2,32 +2,30 @@
 -- m and its field grows; scaled to below the normal numbers, m is divided by a power of two and rounded, once. Over every format that
 -- is short of the reach. Assumes nothing.
 use mathlib.Core.Path.{_≡_, refl, sym, ap, _∙_}
-use mathlib.Core.Bool.{Bool, true, false}
+use mathlib.Core.Bool.{Bool, false}
 use mathlib.Core.Logic.{⊎-elim}
 use Prim.Native.Nat.{ℕ, suc, _+_, _-_, _*_, _/_, _%_, _^_, _≤_, _<_}
-use native.Mathlib.Nat.{mod-le, mod-lt, div-add-mod', div-eq-of-lt, mod-eq-of-lt, mul-le-mul-right, mul-le-mul-left, div-lt-iff-lt-mul}
+use native.Mathlib.Nat.{mod-le, mod-lt, mul-le-mul-right}
 use native.Mathlib.Omega.{arith}
-use lib.Arith.{digits-div}
 use lib.IntN.{ℤ}
 use lib.Ieee.{up, down}
-use lib.Pow.{pow-pos, pow-mono}
-use borrow.Author.Tests.{lt-ltb, le-ltb, eq-eqb, ne-eqb}
+use lib.Pow.{pow-pos}
 use Rattle.float_format.specs.Format.{Format, Valid, signBit, topField, infinity, exponentField, negative, unsigned}
 use Rattle.float_format.specs.Number.{magnitude, encode, bias}
-use Rattle.float_format.specs.Rounding.{parts}
+use Rattle.float_format.specs.Rounding.{parts, nearest}
 use Rattle.float_format.specs.declared.Direction.the-variants.{HalfEven}
-use Rattle.float_format.proofs.Units.{lt-or-ge, three-way, magnitude-at}
-use Rattle.float_format.proofs.Parts.{parts-at, parts-most}
+use Rattle.float_format.proofs.Parts.{parts-whole}
 use Rattle.float_format.proofs.Sizes.{zero-le}
 use Rattle.float_format.proofs.Integral.{room}
 use Rattle.float_format.proofs.Order.{magnitude-zero, infinity-below-sign}
-use Rattle.scaling.specs.Scaling.{nearest, scaled, ldexp, ldexpRefusal}
+use Rattle.scaling.specs.Scaling.{scaled, ldexp, ldexpRefusal}
 use Rattle.scaling.specs.Position.{Short, raise, lower, Offset, Significand, Position}
-use Rattle.scaling.proofs.Powers.{swap, powers, gather, suc-times}
+use Rattle.float_format.proofs.Powers.{swap, powers, gather, suc-times}
 use Rattle.scaling.proofs.Significands.{field-split, normal-significand, subnormal-significand}
 use Rattle.scaling.proofs.Offsets.{up-is, down-is, down-pos}
 use Rattle.scaling.proofs.Classes.{in-range, out-of-range}
-use Rattle.scaling.proofs.Nearest.{encode-small, nearest-scale, nearest-low, NearestPattern, rounds-nearest, exact}
+use Rattle.float_format.proofs.Nearby.{nearest-scale, NearestPattern, rounds-nearest, exact}
+use Rattle.float_format.proofs.Shifting.{even-sign, parts-none, far-below, place, below}
 
 -- ---- a significand, scaled
 
@@ -35,18 +33,12 @@ use Rattle.scaling.proofs.Nearest.{encode-small, nearest-scale, nearest
 module _ (F : ℕ) (s : Bool) (m A B : ℕ) (hF : 1 ≤ F) (lo : 2 ^ F ≤ m) (hi : m < 2 * 2 ^ F) where
   upward : B ≤ A → encode F (nearest F HalfEven s (m * 2 ^ A) (2 ^ B)) ≡ (A - B) * 2 ^ F + m
   upward h =
-      exact F (m * 2 ^ A) (2 ^ B) _ ((A - B) * 2 ^ F + m) (pow-pos B) (rounds-nearest F s (m * 2 ^ A) (2 ^ B) hF (pow-pos B))
-      (sym (ap (λ (y : ℕ). y * 2 ^ B) (magnitude-at F (A - B) m lo (omega arith)) ∙ gather m (A - B) B A (omega arith)))
+      let z : F + 0 ≡ F = omega arith in
+      let w : parts HalfEven s m (2 ^ 0) ≡ m = ap (λ (y : ℕ). parts HalfEven s y (2 ^ 0)) (omega arith) ∙ parts-whole HalfEven s m (2 ^ 0) (pow-pos 0) in
+      place F 0 m s (rw z lo) (rw z hi) A B (omega arith) ∙ ap (λ (k : ℕ). (A + 0 - B) * 2 ^ F + k) w ∙ ap (λ (k : ℕ). k * 2 ^ F + m) (omega arith)
 
   downward : A < B → encode F (nearest F HalfEven s (m * 2 ^ A) (2 ^ B)) ≡ parts HalfEven s m (2 ^ (B - A))
-  downward h =
-      ap (encode F) (ap (nearest F HalfEven s (m * 2 ^ A)) (sym (powers (B - A) A B (omega arith))) ∙ nearest-scale F HalfEven s m (2 ^ (B - A)) (2 ^ A) (pow-pos (B - A)) (pow-pos A) ∙ nearest-low F HalfEven s m (2 ^ (B - A)) (omega (arith, few)))
-      ∙ encode-small F (parts HalfEven s m (2 ^ (B - A))) (omega (arith, few, parts-most HalfEven s m (2 ^ (B - A))))
-    where
-      few : m / 2 ^ (B - A) < 2 ^ F
-      few =
-          div-lt-iff-lt-mul {k = 2 ^ (B - A)} (pow-pos (B - A)) .1
-          (omega (arith, mul-le-mul-left (2 ^ F) (pow-mono {i = 1} {j = B - A} (omega arith))))
+  downward h = let z : F + 0 ≡ F = omega arith in below F 0 m s (rw z lo) (rw z hi) A B (omega arith)
 
 module _ (f : Format) (x m : ℕ) (n : ℤ) (v : Valid f) (fore back : ℕ) (g : Significand f x m fore back) where
   scaled-as : scaled f x n
@@ -72,23 +64,6 @@ module _ (f : Format) (x m : ℕ) (n : ℤ) (v : Valid f) (fore back : ℕ) (g :
       scaled-as ∙ downward (f .fraction) (negative f x) m (fore + raise n) (lower n + back) (v .some-fraction) (g .from) (g .below) h
 
 -- ---- by the place of the exponent field
-
--- the sign has no say where halves go to even
-even-sign : (s t : Bool) (m u : ℕ) → parts HalfEven s m u ≡ parts HalfEven t m u
-unfolding parts
-even-sign s t m u = refl
-
--- less than half of a part is none
-pub parts-none : (s : Bool) (m u : ℕ) → m * 2 < u → parts HalfEven s m u ≡ 0
-unfolding parts
-parts-none s m u h =
-    let none : m / u ≡ 0 = div-eq-of-lt (omega arith) in
-    let all : m % u ≡ m = mod-eq-of-lt (omega arith) in
-    simp (none, all, le-ltb u (m * 2) (omega arith), ne-eqb u (m * 2) (omega arith))
-
--- and so is a significand divided by 2 ^ (F + 2) or more
-far-below : (F m d : ℕ) → m < 2 * 2 ^ F → suc F < d → m * 2 < 2 ^ d
-far-below F m d h l = omega (arith, pow-mono {i = suc (suc F)} {j = d} l)
 
 -- the whole of a scaling is its up part and its down part, and far up or far down is out of range
 module _ (f : Format) (x m t : ℕ) (n : ℤ) (z : Short f) (q : Position f x m t n) where
@@ -130,54 +105,6 @@ module _ (f : Format) (x m t : ℕ) (n : ℤ) (z : Short f) (q : Position f x m 
           scaled-down f x m n (z .word .valid) (q .fore) (q .back) (q .significand) (omega arith)
           ∙ parts-none (negative f x) m (2 ^ (behind - ahead)) (far-below (f .fraction) m (behind - ahead) (q .significand .below) (omega arith))
           ∙ sym (parts-none false m (2 ^ (8193 - t)) (far-below (f .fraction) m (8193 - t) (q .significand .below) (omega arith)))
-
--- ---- m divided and rounded, as the code shifts
-
-pub shifted-is : (m u v : ℕ) → u ≡ v * 2 → 0 < v → (m + (v - 1 + m / u % 2)) / u ≡ parts HalfEven false m u
-shifted-is m u v e p = three-way r v less tie more
-  where
-    q : ℕ
-    q = m / u
-
-    r : ℕ
-    r = m % u
-
-    add : ℕ
-    add = v - 1 + q % 2
-
-    whole : q * u + r ≡ m
-    whole = div-add-mod' m u
-
-    -- without a carry and with one
-    stays : r + add < u → (m + add) / u ≡ q + 0
-    stays l =
-        let s : m + add ≡ q * u + (r + add) = omega (arith, whole) in
-        ap (λ (y : ℕ). y / u) s ∙ digits-div q l ∙ omega arith
-
-    carries : u ≤ r + add → (m + add) / u ≡ q + 1
-    carries g =
-        let l : r < u = mod-lt m (omega arith) in
-        let s : m + add ≡ suc q * u + (r + add - u) = omega (arith, whole) in
-        ap (λ (y : ℕ). y / u) s ∙ digits-div (suc q) (omega arith) ∙ omega arith
-
-    less : r < v → (m + add) / u ≡ parts HalfEven false m u
-    less l = stays (omega arith) ∙ sym (parts-at HalfEven false m u false (simp (le-ltb u (r * 2) (omega arith), ne-eqb u (r * 2) (omega arith))))
-
-    more : v < r → (m + add) / u ≡ parts HalfEven false m u
-    more l = carries (omega arith) ∙ sym (parts-at HalfEven false m u true (simp (lt-ltb u (r * 2) (omega arith))))
-
-    tie : r ≡ v → (m + add) / u ≡ parts HalfEven false m u
-    tie k = ⊎-elim even odd (lt-or-ge (q % 2) 1)
-      where
-        even : q % 2 < 1 → (m + add) / u ≡ parts HalfEven false m u
-        even o =
-            stays (omega arith)
-            ∙ sym (parts-at HalfEven false m u false (simp (le-ltb u (r * 2) (omega arith), eq-eqb u (r * 2) (omega arith), ne-eqb (q % 2) 1 (omega arith))))
-
-        odd : 1 ≤ q % 2 → (m + add) / u ≡ parts HalfEven false m u
-        odd o =
-            carries (omega arith)
-            ∙ sym (parts-at HalfEven false m u true (simp (le-ltb u (r * 2) (omega arith), eq-eqb u (r * 2) (omega arith), eq-eqb (q % 2) 1 (omega arith))))
 
 -- ---- the code's answers
 
@@ -237,34 +164,6 @@ module _ (f : Format) (x m t zero : ℕ) (z : Short f) (p : x < 2 * signBit f) (
   placed-below r er few h =
       placed-at r (omega (arith, room f (bias f) (z .word .valid) refl .whole, room f (bias f) (z .word .valid) refl .two, mul-le-mul-right {m = 1} {n = bias f + f .fraction} (2 ^ f .fraction) (omega (arith, room f (bias f) (z .word .valid) refl .two)), pow-pos (f .fraction)))
       (λ n q. place-below f x m t n z q h ∙ sym er)
-
--- the significand m divided by u, which is 2 ^ d
-pub record Shifted (F m u d : ℕ) : Type 0 where
-  pub some : 0 < u
-  pub half : 1 ≤ u / 2
-  pub fits : m + (u / 2 - 1 + m / u % 2) < 2 ^ 64
-  pub is : (m + (u / 2 - 1 + m / u % 2)) / u ≡ parts HalfEven false m (2 ^ d)
-  pub most : (m + (u / 2 - 1 + m / u % 2)) / u ≤ 2 ^ F
-
-pub shifted : (F m u d : ℕ) → F < 62 → m < 2 * 2 ^ F → 1 ≤ d → d ≤ F + 1 → u ≡ 2 ^ d → Shifted F m u d
-shifted F m u d narrow few some near eu =
-    let e : u ≡ 2 ^ suc (d - 1) = eu ∙ ap (λ (y : ℕ). 2 ^ y) (omega arith) in
-    let h : u ≡ u / 2 * 2 = omega arith in
-    let v : 0 < u / 2 = omega (arith, pow-pos (d - 1)) in
-    let top : u ≤ 2 * 2 ^ F = omega (arith, pow-mono {i = d} {j = suc F} (omega arith)) in
-    let word : 2 ^ F ≤ 2 ^ 62 = pow-mono {i = F} {j = 62} (omega arith) in
-    let q : m / u < 2 ^ F = div-lt-iff-lt-mul {k = u} (omega arith) .1 (omega (arith, mul-le-mul-left {m = 2} {n = u} (2 ^ F) (omega arith))) in
-    let i : (m + (u / 2 - 1 + m / u % 2)) / u ≡ parts HalfEven false m u = shifted-is m u (u / 2) h v in
-    record {
-      some = omega arith;
-      half = v;
-      fits = omega arith;
-      is = i ∙ ap (parts HalfEven false m) eu;
-      most = omega (arith, parts-most HalfEven false m u);
-    }
-
-pub shifted-out : (F m d : ℕ) → m < 2 * 2 ^ F → F + 1 < d → 0 ≡ parts HalfEven false m (2 ^ d)
-shifted-out F m d few h = sym (parts-none false m (2 ^ d) (far-below F m d few (omega arith)))
 
 -- where the code finds the significand
 module _ (f : Format) (x w : ℕ) (n : ℤ) (o : Offset n w) where

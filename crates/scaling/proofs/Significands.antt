@@ -14,7 +14,7 @@ use Rattle.float_format.proofs.Units.{lt-or-ge, magnitude-at, magnitude-low}
 use Rattle.float_format.proofs.Sizes.{rest-below, field-from}
 use Rattle.float_format.proofs.Integral.{room}
 use Rattle.scaling.specs.Position.{Significand}
-use Rattle.scaling.proofs.Powers.{powers}
+use Rattle.float_format.proofs.Powers.{powers}
 
 pub field-split : (f : Format) (x e : ℕ) → e ≡ exponentField f x → unsigned f x ≡ e * 2 ^ f .fraction + x % 2 ^ f .fraction
 field-split f x e h =

@@ -1,13 +1,12 @@
 -- Powers of two taken out of a number and multiplied in (document 01, "Function rules": frexp, ldexp). Definitions only; assumes nothing.
-use mathlib.Core.Bool.{Bool, not, _&&_, _||_, cond}
-use Prim.Native.Nat.{ℕ, suc, _+_, _-_, _*_, _/_, _^_}
+use mathlib.Core.Bool.{not, _&&_, _||_, cond}
+use Prim.Native.Nat.{ℕ, _+_, _-_, _*_, _/_, _^_}
 use lib.Dec.{ltb}
 use lib.IntN.{ℤ, pos, _-ℤ_}
 use lib.Ieee.{size, up, down}
 use Rattle.float_format.specs.Format.{Format, infinity, negative, unsigned, signed, isNan, isInfinite, isZero, quieted}
-use Rattle.float_format.specs.Number.{magnitude, encode, bias, one}
-use Rattle.float_format.specs.Rounding.{parts}
-use Rattle.float_format.specs.declared.Direction.{Direction}
+use Rattle.float_format.specs.Number.{magnitude, encode, bias, one, unitsOf}
+use Rattle.float_format.specs.Rounding.{nearest, rounded}
 use Rattle.float_format.specs.declared.Direction.the-variants.{HalfEven}
 
 -- ---- frexp
@@ -28,22 +27,13 @@ frexpExponent f x =
 
 -- ---- ldexp
 
--- n / u units rounded once to a number of the format without an upper end, F being its fraction bits: of the digits of the whole part
--- suc F are kept
-unfoldable pub nearest : ℕ → Direction → Bool → ℕ → ℕ → ℕ
-nearest F d s n u = parts d s n (u * 2 ^ (size (n / u) - suc F)) * 2 ^ (size (n / u) - suc F)
-
 -- the pattern, without a sign, of a finite x times 2 ^ n: past infinity's where that is out of range
 unfoldable pub scaled : Format → ℕ → ℤ → ℕ
-scaled f x n =
-    encode (f .fraction) (nearest (f .fraction) HalfEven (negative f x) (magnitude (f .fraction) (unsigned f x) * up n) (down n))
+scaled f x n = encode (f .fraction) (nearest (f .fraction) HalfEven (negative f x) (unitsOf f x * up n) (down n))
 
 -- x times 2 ^ n, rounded once, halves to even: NaN quieted, infinities unchanged, x's sign kept
 unfoldable pub ldexp : Format → ℕ → ℤ → ℕ
-ldexp f x n =
-    cond (isNan f x) (quieted f x)
-    (cond (isInfinite f x) x
-    (signed f (negative f x) (cond (ltb (scaled f x n) (infinity f)) (scaled f x n) (infinity f))))
+ldexp f x n = cond (isNan f x) (quieted f x) (cond (isInfinite f x) x (rounded f (negative f x) (unitsOf f x * up n) (down n)))
 
 -- refusal 3: x finite, the result infinite; 0 where there is none
 unfoldable pub ldexpRefusal : Format → ℕ → ℤ → ℕ

@@ -4,14 +4,11 @@
 // over as numbers, so that the compiler folds them. A normal number with a normal answer comes first: there only the exponent field
 // changes. All the rest goes to functions of its own.
 ghost use mathlib.Core.Path.{_≡_};
-ghost use mathlib.Core.Bool.{false};
 ghost use Prim.Native.Nat.{_+_, _-_, _*_, _^_, _<_, _≤_};
 ghost use lib.IntN.{ℤ, pos, _-ℤ_};
 ghost use Rattle.float_format.specs.Format.{signBit, topField, exponentField};
 ghost use Rattle.float_format.specs.Number.{bias};
-ghost use Rattle.float_format.specs.Rounding.{parts};
 ghost use Rattle.float_format.specs.Width.{format, InWord};
-ghost use Rattle.float_format.specs.declared.Direction.the-variants.{HalfEven};
 ghost use Rattle.scaling.specs.Scaling.{frexpFraction, frexpExponent, ldexp, ldexpRefusal};
 ghost use Rattle.scaling.specs.Position.{Short, Offset, Position};
 use float_format::Word64;
@@ -22,6 +19,7 @@ use float_format::width::leading_shift;
 use float_format::width::not_finite;
 use float_format::width::power;
 use float_format::width::rest;
+use float_format::width::shifted;
 use float_format::width::signed_zero;
 use float_format::width::top_field;
 
@@ -117,20 +115,6 @@ fn offset(n: i64) -> u64
         return 4096;
     }
     (n + 8192) as u64
-}
-
-// m / 2^d rounded, halves to even. Half of the unit is added before the shift, less one where the quotient is even, so that a tie
-// stays there.
-fn shifted(fraction: u64, m: u64, d: u64) -> u64
-    requires { ⌜ (fraction < 62) × (m < 2 * 2 ^ fraction) × (1 ≤ d) ⌝ }
-    ensures { λ r. ⌜ (r ≡ parts HalfEven false m (2 ^ d)) × (r ≤ 2 ^ fraction) ⌝ }
-{
-    if d > fraction + 1 {
-        return 0;
-    }
-    let unit = power(d);
-    let odd = m / unit % 2;
-    (m + (unit / 2 - 1 + odd)) / unit
 }
 
 // The number with x's sign and the significand m whose exponent field would be t - 8192.

@@ -9,9 +9,9 @@ use lib.IntN.{pos, negsuc}
 use lib.ListN.{length}
 use Rattle.float_format.specs.Format.{isNan, isInfinite, isZero, quieted, absolute, negated}
 use Rattle.float_format.specs.Number.{magnitude, encode, above, under}
-use Rattle.float_format.specs.Rounding.{parts, wholePart, integral, lroundRefusal, lroundValue}
+use Rattle.float_format.specs.Rounding.{parts, wholePart, integral, lroundRefusal, lroundValue, nearest, rounded}
 use Rattle.ordering.specs.Ordering.{fmin, fmax}
-use Rattle.scaling.specs.Scaling.{nearest, scaled, ldexp, ldexpRefusal}
+use Rattle.scaling.specs.Scaling.{scaled, ldexp, ldexpRefusal}
 use Rattle.hex.specs.Hex.{digits, fieldOf, digitOf}
 use Rattle.recipe.specs.declared.Step.{Step}
 use Rattle.recipe.specs.Table.{rowOf}
@@ -192,5 +192,5 @@ corners =
     ∷ []
 
 pub range-corners : map (λ (c : Case). c .given) corners ≡ map (λ (c : Case). c .stated) corners
-unfolding corners rangeRule integral parts wholePart lroundRefusal lroundValue fmin fmax nearest scaled ldexp ldexpRefusal isNan isInfinite isZero quieted absolute negated magnitude encode above under size span climb
+unfolding corners rangeRule integral parts wholePart lroundRefusal lroundValue fmin fmax nearest rounded scaled ldexp ldexpRefusal isNan isInfinite isZero quieted absolute negated magnitude encode above under size span climb
 range-corners = refl

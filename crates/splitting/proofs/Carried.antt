@@ -10,7 +10,7 @@ use lib.Ieee.Bits.{ofBits-toBits}
 use Rattle.float_format.specs.Format.{Format, signBit, infinity, unsigned, isNan, quieted}
 use Rattle.splitting.specs.Splitting.{modfWhole, modfFraction}
 use Rattle.splitting.proofs.Fraction.{is-nan, is-number, whole-lt, fraction-lt}
-use Rattle.splitting.proofs.Floats.{formatOf, agrees, number, read-back}
+use Rattle.float_format.proofs.Floats.{formatOf, agrees, number, read-back}
 use Rattle.splitting.proofs.Laws.{nan-parts, whole-number, fraction-number, Joined, added-back}
 
 -- a NaN's parts are one pattern

@@ -5,25 +5,24 @@ use mathlib.Core.Path.{_≡_, refl, sym, ap, _∙_}
 use mathlib.Core.Bool.{Bool, true, false, cond}
 use mathlib.Core.Logic.{⊎-elim}
 use Prim.Native.Nat.{ℕ, zero, suc, _+_, _-_, _*_, _/_, _%_, _^_, _≤_, _<_}
-use native.Mathlib.Nat.{mod-lt, mod-le, mod-eq-of-lt, mul-mod-left, mul-add-mod-self-right, mul-assoc, pow-suc, div-add-mod'}
+use native.Mathlib.Nat.{mod-lt, mod-le, mod-eq-of-lt, mul-mod-left, mul-add-mod-self-right, mul-assoc, div-add-mod'}
 use native.Mathlib.Omega.{arith}
 use lib.Arith.{digits-div}
 use lib.Bits.{bitAnd, and-mask}
 use lib.Pow.{pow-pos, pow-mono, pow-add, mod-mod-pow, ones-split, ones-lt}
 use borrow.Author.Tests.{eq-eqb, ne-eqb, lt-ltb, le-ltb, ltb-true, ltb-false}
 use Rattle.float_format.specs.Format.{Format, Valid, signBit, topField, infinity, negative, unsigned, signed, isNan, quieted}
-use Rattle.float_format.specs.Number.{magnitude, encode, bias, one}
+use Rattle.float_format.specs.Number.{magnitude, encode, bias, one, unitsOf}
 use Rattle.float_format.specs.Rounding.{integral}
 use Rattle.float_format.specs.Width.{Finite}
 use Rattle.float_format.specs.declared.Direction.the-variants.{TowardZero}
-use Rattle.float_format.proofs.Units.{lt-or-ge, three-way, encode-low, encode-magnitude, magnitude-encode, magnitude-at, magnitude-low, magnitude-mono, magnitude-cancel, Normal, normal, field-at}
+use Rattle.float_format.proofs.Units.{lt-or-ge, three-way, encode-low, encode-magnitude, magnitude-encode, magnitude-low, magnitude-mono, magnitude-cancel, Normal, normal, field-at, Held, held-small, held}
 use Rattle.float_format.proofs.Parts.{mod-scale}
 use Rattle.float_format.proofs.Patterns.{nan-is, infinite-is, below-sign, signed-parts, signed-lt}
 use Rattle.float_format.proofs.Whole.{Rounded, one-at, large}
 use Rattle.float_format.proofs.Integral.{integral-nan, integral-infinite, integral-finite, integral-lt, quieted-lt}
 use Rattle.float_format.proofs.Sizes.{sizes, rest-below, rest-from, rest-infinite, rest-nan, zero-is}
 use Rattle.float_format.proofs.Lead.{encode-normal}
-use Rattle.float_format.proofs.Order.{unitsOf}
 use Rattle.rounding.specs.Shape.{fractionShift}
 use Rattle.rounding.proofs.Shifts.{shift-is}
 use Rattle.rounding.proofs.Directions.{trunc-sum, trunc-zero}
@@ -60,52 +59,28 @@ module _ (f : Format) (x : ℕ) where
 
 -- ---- what is past the last multiple of a power of two, the format holds
 
--- a pattern of n units
-pub record Holds (F n : ℕ) : Type 0 where
-  pub pattern : ℕ
-  pub units : n ≡ magnitude F pattern
-
-holds-below : (F m : ℕ) → m < 2 * 2 ^ F → Holds F m
-holds-below F m h = ⊎-elim (λ l. record { pattern = m; units = sym (magnitude-low F m l) }) (λ g. from g) (lt-or-ge m (2 ^ F))
+pub rest-held : (F a w : ℕ) → Held F (magnitude F a % 2 ^ w)
+rest-held F a w = ⊎-elim (λ l. low l) (λ g. high (normal F a g)) (lt-or-ge a (2 ^ F))
   where
-    from : 2 ^ F ≤ m → Holds F m
-    from g = record { pattern = m; units = sym (ap (magnitude F) (omega arith) ∙ magnitude-at F 0 m g (omega arith) ∙ omega arith) }
+    low : a < 2 ^ F → Held F (magnitude F a % 2 ^ w)
+    low l = held-small F (magnitude F a % 2 ^ w) (omega (arith, mod-le (magnitude F a) (2 ^ w), magnitude-low F a l))
 
--- doubled until its leading one is in place, or no scale is left
-holds : (F m j : ℕ) → m < 2 * 2 ^ F → Holds F (m * 2 ^ j)
-holds F m zero h = rw (one-times m) (holds-below F m h)
-  where
-    one-times : (m : ℕ) → m * 2 ^ 0 ≡ m
-    one-times m = omega arith
-holds F m (suc j) h =
-    ⊎-elim (λ l. rw (twice m j) (holds F (m * 2) j (omega arith))) (λ g. record { pattern = suc j * 2 ^ F + m; units = sym (magnitude-at F (suc j) m g (omega arith)) })
-    (lt-or-ge m (2 ^ F))
-  where
-    twice : (m j : ℕ) → m * 2 ^ suc j ≡ m * 2 * 2 ^ j
-    twice m j = omega (arith, ap (λ (p : ℕ). m * p) (pow-suc 2 j))
-
-pub rest-holds : (F a w : ℕ) → Holds F (magnitude F a % 2 ^ w)
-rest-holds F a w = ⊎-elim (λ l. low l) (λ g. high (normal F a g)) (lt-or-ge a (2 ^ F))
-  where
-    low : a < 2 ^ F → Holds F (magnitude F a % 2 ^ w)
-    low l = holds-below F (magnitude F a % 2 ^ w) (omega (arith, mod-le (magnitude F a) (2 ^ w), magnitude-low F a l))
-
-    high : Normal F a → Holds F (magnitude F a % 2 ^ w)
+    high : Normal F a → Held F (magnitude F a % 2 ^ w)
     high n = ⊎-elim (λ l. some l) (λ g. none g) (lt-or-ge (n .j) w)
       where
-        some : n .j < w → Holds F (magnitude F a % 2 ^ w)
+        some : n .j < w → Held F (magnitude F a % 2 ^ w)
         some l =
             let p : 2 ^ w ≡ 2 ^ (w - n .j) * 2 ^ n .j = ap (λ (i : ℕ). 2 ^ i) (omega arith) ∙ pow-add 2 (w - n .j) (n .j) in
             let e : magnitude F a % 2 ^ w ≡ n .M % 2 ^ (w - n .j) * 2 ^ n .j =
             ap (λ (u : ℕ). u % 2 ^ w) (n .units) ∙ ap (λ (q : ℕ). (n .M * 2 ^ n .j) % q) p ∙ mod-scale (n .M) (2 ^ (w - n .j)) (2 ^ n .j) (pow-pos (w - n .j)) (pow-pos (n .j)) in
-            rw e (holds F (n .M % 2 ^ (w - n .j)) (n .j) (omega (arith, mod-le (n .M) (2 ^ (w - n .j)), n .hi)))
+            rw e (held F (n .M % 2 ^ (w - n .j)) (n .j) (omega (arith, mod-le (n .M) (2 ^ (w - n .j)), n .hi)))
 
-        none : w ≤ n .j → Holds F (magnitude F a % 2 ^ w)
+        none : w ≤ n .j → Held F (magnitude F a % 2 ^ w)
         none g =
             let p : 2 ^ n .j ≡ 2 ^ (n .j - w) * 2 ^ w = ap (λ (i : ℕ). 2 ^ i) (omega arith) ∙ pow-add 2 (n .j - w) w in
             let e : magnitude F a % 2 ^ w ≡ 0 =
             ap (λ (u : ℕ). u % 2 ^ w) (n .units ∙ ap (λ (q : ℕ). n .M * q) p ∙ sym (mul-assoc (n .M) (2 ^ (n .j - w)) (2 ^ w))) ∙ mul-mod-left (n .M * 2 ^ (n .j - w)) (2 ^ w) in
-            rw e (holds-below F 0 (omega (arith, pow-pos F)))
+            rw e (held-small F 0 (omega (arith, pow-pos F)))
 
 -- the fraction of a finite pattern, without its sign: its units are those of x past the last one, and it is no larger than x
 pub record Rest (f : Format) (x r : ℕ) : Type 0 where
@@ -113,9 +88,9 @@ pub record Rest (f : Format) (x r : ℕ) : Type 0 where
   pub within : r ≤ unsigned f x
 
 pub rest : (f : Format) (x : ℕ) → Rest f x (encode (f .fraction) (unitsOf f x % one f))
-rest f x = go (rest-holds (f .fraction) (unsigned f x) (bias f + f .fraction - 1))
+rest f x = go (rest-held (f .fraction) (unsigned f x) (bias f + f .fraction - 1))
   where
-    go : Holds (f .fraction) (unitsOf f x % one f) → Rest f x (encode (f .fraction) (unitsOf f x % one f))
+    go : Held (f .fraction) (unitsOf f x % one f) → Rest f x (encode (f .fraction) (unitsOf f x % one f))
     go h =
         let u : magnitude (f .fraction) (encode (f .fraction) (unitsOf f x % one f)) ≡ unitsOf f x % one f =
         magnitude-encode (f .fraction) (unitsOf f x % one f) (h .pattern) (h .units) in

@@ -12,18 +12,17 @@ use lib.Ieee as Ieee
 use lib.Ieee.{Float, inf, add, toBits, ofBits, low}
 use lib.Ieee.Exact.{HasValue}
 use Rattle.float_format.specs.Format.{Format, Valid, signBit, infinity, negative, unsigned, signed, isNan, quieted}
-use Rattle.float_format.specs.Number.{magnitude, encode, bias, one}
+use Rattle.float_format.specs.Number.{magnitude, encode, bias, one, unitsOf}
 use Rattle.float_format.specs.Rounding.{wholePart, integral}
 use Rattle.float_format.specs.declared.Direction.the-variants.{TowardZero}
 use Rattle.float_format.proofs.Units.{encode-magnitude}
 use Rattle.float_format.proofs.Parts.{parts-at}
 use Rattle.float_format.proofs.Patterns.{below-sign, negative-signed, unsigned-signed, signed-parts}
 use Rattle.float_format.proofs.Integral.{integral-nan, integral-infinite, room}
-use Rattle.float_format.proofs.Order.{unitsOf}
 use Rattle.float_format.proofs.Laws.{result, result-finite, integral-sign, one-pos}
 use Rattle.splitting.specs.Splitting.{modfWhole, modfFraction}
 use Rattle.splitting.proofs.Fraction.{whole-trunc, fraction-of-nan, fraction-of-infinity, fraction-of-finite, is-number, Rest, rest}
-use Rattle.splitting.proofs.Floats.{formatOf, agrees, reads, reads-infinite, writes, writes-infinite, finite-number, infinite-number, sum-infinite, sum-exact, Held, held}
+use Rattle.float_format.proofs.Floats.{formatOf, agrees, reads, reads-infinite, writes, writes-infinite, finite-number, infinite-number, sum-infinite, sum-exact, Held, held}
 
 -- ---- by class
 

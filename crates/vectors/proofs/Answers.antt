@@ -5,9 +5,10 @@ use lib.IntN.{ℤ}
 use mir.Syntax.{w64}
 use mir.Val.{ofZ, toZ}
 use borrow.Author.Tests.{ne-eqb}
-use Rattle.float_format.specs.Format.{Format, binary32, binary64}
+use Rattle.float_format.specs.Format.{Format, binary16, binary32, binary64}
+use Rattle.conversion.specs.Conversion.{converted, convertedRefusal}
 use Rattle.vectors.specs.declared.case.Case.{Case}
-use Rattle.vectors.specs.Answer.{words, unknownAnswer, wholeAnswer, furtherAt, answerAt, answerOf}
+use Rattle.vectors.specs.Answer.{words, unknownAnswer, wholeAnswer, furtherAt, answerAt, singleAt, halfAt, answerOf}
 
 -- ---- by its parts
 
@@ -63,6 +64,33 @@ unknown f k x y n h =
       ne-eqb k 37 (h .1),
     )
 
+-- of an f32 and of a half
+pub exported : (function x y : ℕ) (n : ℤ) → function ≡ 27 → words (convertedRefusal binary32 binary16 x) (converted binary32 binary16 x) 0 ≡ singleAt function x y n
+unfolding singleAt
+exported function x y n e = rw e
+
+pub not-exported : (function x y : ℕ) (n : ℤ) → (function ≡ 27 → ⊥) → answerAt binary32 function x y n ≡ singleAt function x y n
+unfolding singleAt
+not-exported function x y n h = rw (ne-eqb function 27 h)
+
+pub half : (x : ℕ) {function k : ℕ} → function ≡ k → halfAt k x ≡ halfAt function x
+half x e = sym (ap (λ (k : ℕ). halfAt k x) e)
+
+abbrev pub NoHalf : ℕ → Type 0
+NoHalf n = (((((Unit {0} × (n ≡ 16 → ⊥)) × (n ≡ 17 → ⊥)) × (n ≡ 18 → ⊥)) × (n ≡ 19 → ⊥)) × (n ≡ 20 → ⊥)) × (n ≡ 26 → ⊥)
+
+pub no-half : (function x : ℕ) → NoHalf function → unknownAnswer ≡ halfAt function x
+unfolding halfAt
+no-half k x h =
+    simp (
+      ne-eqb k 16 (h .0 .0 .0 .0 .0 .1),
+      ne-eqb k 17 (h .0 .0 .0 .0 .1),
+      ne-eqb k 18 (h .0 .0 .0 .1),
+      ne-eqb k 19 (h .0 .0 .1),
+      ne-eqb k 20 (h .0 .1),
+      ne-eqb k 26 (h .1),
+    )
+
 -- ---- by a width
 
 module _ (c : Case) where
@@ -70,10 +98,14 @@ module _ (c : Case) where
   unfolding answerOf
   at-64 e = rw e
 
-  pub at-32 : c .width ≡ 32 → answerAt binary32 (c .function) (c .x % 2 ^ 32) (c .y % 2 ^ 32) (toZ w64 (c .y)) ≡ answerOf c
+  pub at-32 : c .width ≡ 32 → singleAt (c .function) (c .x % 2 ^ 32) (c .y % 2 ^ 32) (toZ w64 (c .y)) ≡ answerOf c
   unfolding answerOf
   at-32 e = rw e
 
-  pub at-none : (c .width ≡ 64 → ⊥) → (c .width ≡ 32 → ⊥) → unknownAnswer ≡ answerOf c
+  pub at-16 : c .width ≡ 16 → halfAt (c .function) (c .x % 2 ^ 16) ≡ answerOf c
   unfolding answerOf
-  at-none p q = rw (ne-eqb (c .width) 64 p, ne-eqb (c .width) 32 q)
+  at-16 e = rw e
+
+  pub at-none : (c .width ≡ 64 → ⊥) → (c .width ≡ 32 → ⊥) → (c .width ≡ 16 → ⊥) → unknownAnswer ≡ answerOf c
+  unfolding answerOf
+  at-none p q r = rw (ne-eqb (c .width) 64 p, ne-eqb (c .width) 32 q, ne-eqb (c .width) 16 r)

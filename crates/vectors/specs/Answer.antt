@@ -5,9 +5,10 @@ use lib.Dec.{eqb}
 use lib.IntN.{ℤ}
 use mir.Syntax.{w64}
 use mir.Val.{ofZ, toZ}
-use Rattle.float_format.specs.Format.{Format, binary32, binary64, absolute, negated, classify, classNumber}
+use Rattle.float_format.specs.Format.{Format, binary16, binary32, binary64, absolute, negated, classify, classNumber}
 use Rattle.float_format.specs.Rounding.{integral, lroundRefusal, lroundValue}
 use Rattle.float_format.specs.declared.Direction.the-variants.{Down, Up, TowardZero, HalfAway, HalfEven}
+use Rattle.conversion.specs.Conversion.{converted, convertedRefusal}
 use Rattle.splitting.specs.Splitting.{modfWhole, modfFraction}
 use Rattle.scaling.specs.Scaling.{frexpFraction, frexpExponent, ldexp, ldexpRefusal}
 use Rattle.remainder.specs.Remainder.{fmod, fmodRefusal}
@@ -55,8 +56,24 @@ answerAt f function x y n =
     (cond (eqb function 24) (wholeAnswer (lroundRefusal f x) (lroundValue f x))
     (cond (eqb function 25) (patternAnswer (classNumber (classify f x))) (furtherAt f function x y n)))))))))
 
--- the patterns of a case of 32 bits are taken modulo 2^32
+-- of an f32 also its export to a half
+unfoldable pub singleAt : ℕ → ℕ → ℕ → ℤ → Answer
+singleAt function x y n =
+    cond (eqb function 27) (words (convertedRefusal binary32 binary16 x) (converted binary32 binary16 x) 0) (answerAt binary32 function x y n)
+
+-- of a half the five roundings, and its import
+unfoldable pub halfAt : ℕ → ℕ → Answer
+halfAt function x =
+    cond (eqb function 16) (patternAnswer (integral binary16 Down x))
+    (cond (eqb function 17) (patternAnswer (integral binary16 Up x))
+    (cond (eqb function 18) (patternAnswer (integral binary16 TowardZero x))
+    (cond (eqb function 19) (patternAnswer (integral binary16 HalfAway x))
+    (cond (eqb function 20) (patternAnswer (integral binary16 HalfEven x))
+    (cond (eqb function 26) (patternAnswer (converted binary16 binary32 x)) unknownAnswer)))))
+
+-- the patterns of a case of 32 bits are taken modulo 2^32, those of 16 modulo 2^16
 unfoldable pub answerOf : Case → Answer
 answerOf c =
     cond (eqb (c .width) 64) (answerAt binary64 (c .function) (c .x) (c .y) (toZ w64 (c .y)))
-    (cond (eqb (c .width) 32) (answerAt binary32 (c .function) (c .x % 2 ^ 32) (c .y % 2 ^ 32) (toZ w64 (c .y))) unknownAnswer)
+    (cond (eqb (c .width) 32) (singleAt (c .function) (c .x % 2 ^ 32) (c .y % 2 ^ 32) (toZ w64 (c .y)))
+    (cond (eqb (c .width) 16) (halfAt (c .function) (c .x % 2 ^ 16)) unknownAnswer))

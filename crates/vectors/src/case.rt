@@ -5,11 +5,12 @@ ghost use lib.ListN.{length};
 ghost use Rattle.float_format.specs.Format.{binary32, binary64};
 ghost use mir.Syntax.{w64};
 ghost use mir.Val.{toZ};
-ghost use Rattle.vectors.specs.Answer.{furtherAt, answerAt, answerOf};
+ghost use Rattle.vectors.specs.Answer.{furtherAt, answerAt, singleAt, halfAt, answerOf};
 ghost use Rattle.vectors.specs.Line.{separatedBy, caseOf};
 use crate::answer::Answer;
 use float_format::Binary32;
 use float_format::Binary64;
+use rounding::binary16;
 use rounding::binary32;
 use rounding::binary64;
 use twos_complement::signed;
@@ -84,7 +85,8 @@ impl Case {
         let width = self.width;
         match width {
             64 => self.answer64(),
-            32 => self.answer32(),
+            32 => self.single(),
+            16 => self.half(),
             _ => Answer::unknown(),
         }
     }
@@ -139,6 +141,37 @@ impl Case {
                 let r = scaling::binary64::frexp(x);
                 Answer::scaled(r.fraction, r.exponent)
             }
+            _ => Answer::unknown(),
+        }
+    }
+
+    // Of an f32, its export to a half; or what both widths have.
+    fn single(self) -> Answer
+        ensures { λ r. ⌜ r ≡ singleAt (self .function) (self .x % 2 ^ 32) (self .y % 2 ^ 32) (toZ w64 (self .y)) ⌝ }
+    {
+        let function = self.function;
+        match function {
+            0x1b => {
+                let r = conversion::export((self.x % 0x1_0000_0000) as u32);
+                Answer::refusable(r.refusal, r.word as u64)
+            }
+            _ => self.answer32(),
+        }
+    }
+
+    // The operand is taken modulo 2^16, as a pattern of binary16.
+    fn half(self) -> Answer
+        ensures { λ r. ⌜ r ≡ halfAt (self .function) (self .x % 2 ^ 16) ⌝ }
+    {
+        let function = self.function;
+        let x = (self.x % 0x1_0000) as u16;
+        match function {
+            0x10 => Answer::pattern(binary16::floor(x) as u64),
+            0x11 => Answer::pattern(binary16::ceil(x) as u64),
+            0x12 => Answer::pattern(binary16::trunc(x) as u64),
+            0x13 => Answer::pattern(binary16::round(x) as u64),
+            0x14 => Answer::pattern(binary16::nearbyint(x) as u64),
+            0x1a => Answer::pattern(conversion::import(x) as u64),
             _ => Answer::unknown(),
         }
     }

@@ -1,13 +1,14 @@
-//! Compares library and reference on all 2^32 patterns of f32, for every function of one pattern.
+//! Compares library and reference on all 2^32 patterns of f32, for every function of one pattern,
+//! export to halves among them.
 //!
-//!     exhaustive                 all patterns
-//!     exhaustive --slice K/N     the K-th of N slices, K from 1 to N
+//!     exhaustive                       all patterns
+//!     exhaustive --slice K/N           the K-th of N slices, K from 1 to N
+//!     exhaustive [--slice K/N] NAME..  only these functions
 //!
 //! Ends with one line that says how much was compared; exit status 1 where anything differed.
 
 use estrenwind_tests::comparison::{first_difference, on_all_cores};
 use estrenwind_tests::functions::{Function, FUNCTIONS};
-use estrenwind_tests::operands::Operands;
 use estrenwind_tests::reference::BINARY32;
 use std::env;
 use std::process::ExitCode;
@@ -71,21 +72,29 @@ fn compare(slice: Slice, functions: &[&Function]) -> (u64, u64) {
     (compared, differing.into_inner())
 }
 
+/// The functions of one f32 with these names, or all where none is named; nothing where there is no
+/// such function.
+fn named(names: &[&str]) -> Option<Vec<&'static Function>> {
+    let of_one_pattern =
+        |function: &&Function| function.operands.is_one_pattern() && function.is_at(&BINARY32);
+    if names.is_empty() {
+        return Some(FUNCTIONS.iter().filter(of_one_pattern).collect());
+    }
+    let named = |name: &&str| Function::named(name).filter(of_one_pattern);
+    names.iter().map(named).collect()
+}
+
 fn main() -> ExitCode {
     let arguments: Vec<String> = env::args().skip(1).collect();
-    let slice = match arguments.iter().map(String::as_str).collect::<Vec<_>>()[..] {
-        [] => Slice::parse("1/1"),
-        ["--slice", slice] => Slice::parse(slice),
-        _ => None,
+    let arguments: Vec<&str> = arguments.iter().map(String::as_str).collect();
+    let (slice, names) = match arguments[..] {
+        ["--slice", slice, ref names @ ..] => (Slice::parse(slice), names),
+        ref names => (Slice::parse("1/1"), names),
     };
-    let Some(slice) = slice else {
-        eprintln!("usage: exhaustive [--slice K/N]");
+    let (Some(slice), Some(functions)) = (slice, named(names)) else {
+        eprintln!("usage: exhaustive [--slice K/N] [NAME..]");
         return ExitCode::FAILURE;
     };
-    let functions: Vec<&Function> = FUNCTIONS
-        .iter()
-        .filter(|function| function.operands == Operands::Pattern)
-        .collect();
     let (compared, differing) = compare(slice, &functions);
     let names: Vec<&str> = functions.iter().map(|function| function.name).collect();
     println!(
@@ -125,6 +134,24 @@ mod tests {
             .map(|row| slice.pattern(row).unwrap() % 256)
             .collect();
         assert_eq!(endings.len(), 256);
+    }
+
+    #[test]
+    fn only_functions_of_one_float_are_named() {
+        let names = |names: &[&str]| {
+            let functions = named(names)?;
+            Some(functions.iter().map(|f| f.name).collect::<Vec<_>>())
+        };
+        let all = names(&[]).unwrap();
+        assert_eq!(all.len(), 12);
+        assert!(all.contains(&"floor") && all.contains(&"f32_to_f16"));
+        assert_eq!(
+            names(&["f32_to_f16", "ceil"]),
+            Some(vec!["f32_to_f16", "ceil"])
+        );
+        for wrong in ["flor", "fmod", "f16_to_f32", "--slice"] {
+            assert_eq!(names(&[wrong]), None, "{wrong}");
+        }
     }
 
     #[test]

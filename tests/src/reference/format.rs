@@ -14,6 +14,7 @@ pub struct Format {
 
 pub const BINARY64: Format = Format::new(52, 11);
 pub const BINARY32: Format = Format::new(23, 8);
+pub const BINARY16: Format = Format::new(10, 5);
 
 /// What document 01's classify numbers.
 #[derive(Clone, Copy, Debug, PartialEq, Eq)]

@@ -40,7 +40,7 @@ fn reduced(format: &Format, n: i64) -> i64 {
 ///
 /// The format writes every number of F + 1 digits. Of a longer one it writes the first F + 1, so
 /// what it writes are multiples of 2^s, s being the digits that are too many.
-fn nearest(format: &Format, units: &Natural, down: u32) -> Natural {
+pub fn nearest(format: &Format, units: &Natural, down: u32) -> Natural {
     let digits = units.size().saturating_sub(down);
     let s = digits.saturating_sub(format.fraction_bits + 1);
     let (quotient, rest) = units.div_rem_power_of_two(down + s);

@@ -1,8 +1,9 @@
-//! Laws of document 01, asked of the library alone, and the language's own operations beside it. A
-//! mistake that the reference shared would show here.
+//! Laws of document 01 and of the requests after it, asked of the library alone, and the language's
+//! own operations beside it. A mistake that the reference shared would show here.
 
 mod extremes;
 mod fmod;
+mod halves;
 mod language;
 mod ldexp;
 mod nextafter;
@@ -11,7 +12,7 @@ mod roundings;
 
 use estrenwind_tests::functions::{Function, Library};
 use estrenwind_tests::operands::Operands;
-use estrenwind_tests::patterns::{edges, Random};
+use estrenwind_tests::patterns::{edges, edges_are_all, Random};
 use estrenwind_tests::reference::{Class, Format};
 
 fn function(name: &str) -> &'static Function {
@@ -22,11 +23,13 @@ fn library(name: &str, format: &Format) -> Library {
     function(name).library(format)
 }
 
-/// Edges and random patterns, no NaN among them.
+/// Edges and random patterns, or all of a narrow format; no NaN among them.
 fn numbers(format: &Format) -> Vec<u64> {
     let mut random = Random::new(0x200);
     let mut numbers = edges(format);
-    numbers.extend((0..2_000_000).map(|_| random.pattern(format)));
+    if !edges_are_all(format) {
+        numbers.extend((0..2_000_000).map(|_| random.pattern(format)));
+    }
     numbers.retain(|&x| format.classify(x) != Class::Nan);
     numbers
 }
@@ -39,7 +42,7 @@ fn cases(name: &str, format: &Format) -> Vec<[u64; 2]> {
     cases.extend((0..2_000_000).map(|_| operands.random(format, &mut random)));
     let is_nan = |x: u64| format.classify(x) == Class::Nan;
     cases.retain(|&[x, y]| match operands {
-        Operands::Pattern | Operands::PatternAndWhole => !is_nan(x),
+        Operands::Pattern | Operands::PatternToHalf | Operands::PatternAndWhole => !is_nan(x),
         Operands::Patterns => !is_nan(x) && !is_nan(y),
     });
     cases

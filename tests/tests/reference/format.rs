@@ -2,7 +2,7 @@
 
 use crate::counting::{Counted, SMALL, WIDE};
 use estrenwind_tests::reference::natural::Natural;
-use estrenwind_tests::reference::{Class, Format, BINARY32, BINARY64};
+use estrenwind_tests::reference::{Class, Format, BINARY16, BINARY32, BINARY64};
 
 #[test]
 fn the_widths_are_those_of_document_01() {
@@ -13,6 +13,17 @@ fn the_widths_are_those_of_document_01() {
     assert_eq!((BINARY64.one_log2(), BINARY32.one_log2()), (1074, 149));
     assert_eq!(BINARY64.default_nan(), 0x7ff8000000000000);
     assert_eq!(BINARY32.default_nan(), 0x7fc00000);
+}
+
+/// W-201 stores binary16: its smallest number is 2^-24, and 65,504 its largest.
+#[test]
+fn the_third_width_is_that_of_halves() {
+    assert_eq!((BINARY16.width(), BINARY16.fraction_bits), (16, 10));
+    assert_eq!(BINARY16.largest_exponent_field(), 31);
+    assert_eq!(BINARY16.one_log2(), 24);
+    assert_eq!(BINARY16.default_nan(), 0x7e00);
+    let largest = &Natural::from(65_504) << BINARY16.one_log2();
+    assert_eq!(BINARY16.magnitude(0x7bff), largest);
 }
 
 #[test]
@@ -33,6 +44,13 @@ fn numbers_at_the_widths_in_use() {
         (BINARY32, 0x3f800000, units(1, 149)),
         (BINARY32, 0xc0400000, units(3, 149)),
         (BINARY32, 0x7f7fffff, units(0xffffff, 253)),
+        (BINARY16, 0x8000, units(0, 0)),
+        (BINARY16, 0x0001, units(1, 0)),
+        (BINARY16, 0x03ff, units(0x3ff, 0)),
+        (BINARY16, 0x0400, units(1, 10)),
+        (BINARY16, 0x3c00, units(1, 24)),
+        (BINARY16, 0xc200, units(3, 24)),
+        (BINARY16, 0x7bff, units(0x7ff, 29)),
     ] {
         assert_eq!(format.magnitude(x), expected, "{x:x}");
         assert_eq!(format.encode(&expected), format.fabs(x), "{x:x}");

@@ -1,6 +1,7 @@
-//! The reference against the statements of document 01, mostly on formats so small that every
-//! pattern is tried.
+//! The reference against the statements of document 01 and of the requests after it, mostly on
+//! formats so small that every pattern is tried.
 
+mod conversion;
 mod counting;
 mod fmod;
 mod format;

@@ -4,7 +4,7 @@ use crate::counting::{Counted, SMALL, WIDE};
 use estrenwind_tests::answer::Answer;
 use estrenwind_tests::patterns::edges;
 use estrenwind_tests::reference::natural::Natural;
-use estrenwind_tests::reference::{rounding, Class, Format, BINARY32, BINARY64};
+use estrenwind_tests::reference::{rounding, Class, Format, BINARY16, BINARY32, BINARY64};
 
 type Rounding = fn(&Format, u64) -> u64;
 
@@ -83,7 +83,7 @@ fn lround_gives_round_or_refuses() {
 /// The same at the widths in use, by what has to hold of a result.
 #[test]
 fn roundings_at_the_widths_in_use() {
-    for (format, one_log2) in [(BINARY64, 1074), (BINARY32, 149)] {
+    for (format, one_log2) in [(BINARY64, 1074), (BINARY32, 149), (BINARY16, 24)] {
         let one = Natural::power_of_two(one_log2);
         let mut numbers = edges(&format);
         numbers.retain(|&x| !matches!(format.classify(x), Class::Nan | Class::Infinite));

@@ -6,6 +6,7 @@
 
 mod extremes;
 mod fmod;
+mod halves;
 mod ldexp;
 mod nextafter;
 mod parts;

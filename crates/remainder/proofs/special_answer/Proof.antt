@@ -6,7 +6,8 @@ use native.Mathlib.Omega.{arith}
 use borrow.Author.Tests.{eqb-true, eqb-false}
 use Rattle.float_format.specs.Format.{Format, infinity, unsigned}
 use Rattle.float_format.specs.Width.{format}
-use Rattle.remainder.proofs.Cases.{answered, nan-first, nan-second, no-remainder, infinite-divisor, special-last, default-nan-lt}
+use Rattle.float_format.proofs.Integral.{default-nan-lt}
+use Rattle.remainder.proofs.Cases.{answered, nan-first, nan-second, no-remainder, infinite-divisor, special-last}
 use borrow.Author.Needs.{needs}
 use Rattle.remainder.proofs.special_answer.Statement.{statement}
 use Rattle.remainder.proofs.special_answer.Tie as tie

@@ -8,12 +8,12 @@ use native.Mathlib.Nat.{eq-or-lt-of-le, mod-eq-of-lt}
 use native.Mathlib.Omega.{arith}
 use borrow.Author.Tests.{ltb-false, lt-leb}
 use Rattle.float_format.specs.Format.{binary64, signBit, infinity, negative, unsigned, isNan, absolute, negated}
-use Rattle.float_format.specs.Number.{magnitude, above, under, AtMost}
+use Rattle.float_format.specs.Number.{magnitude, above, under, AtMost, unitsOf}
 use Rattle.float_format.specs.Rounding.{integral}
 use Rattle.float_format.specs.declared.Direction.{Direction}
 use Rattle.float_format.proofs.Patterns.{below-sign}
 use Rattle.float_format.proofs.Integral.{integral-infinite}
-use Rattle.float_format.proofs.Order.{unitsOf, magnitude-zero, above-at, under-at, above-negated, under-negated, unsigned-negated}
+use Rattle.float_format.proofs.Order.{magnitude-zero, above-at, under-at, above-negated, under-negated, unsigned-negated}
 use Rattle.float_format.proofs.Laws.{result-finite, monotone}
 use Rattle.ordering.specs.Ordering.{fmin, fmax}
 use Rattle.ordering.proofs.MinMax.{Numbers, fmin-first, fmax-first, fmin-mono, fmax-mono}

@@ -9,10 +9,10 @@ use native.Mathlib.Omega.{arith}
 use lib.Dec.{eqb}
 use borrow.Author.Tests.{ltb-true, ltb-false, ne-eqb, eqb-false}
 use Rattle.float_format.specs.Format.{binary64, infinity, negative, unsigned, isNan, isInfinite, isZero, absolute, negated}
-use Rattle.float_format.specs.Number.{magnitude, one, above, under, AtMost, below}
+use Rattle.float_format.specs.Number.{magnitude, one, above, under, AtMost, below, unitsOf}
 use Rattle.float_format.proofs.Units.{lt-or-ge, magnitude-at, magnitude-mono-le}
 use Rattle.float_format.proofs.Patterns.{infinite-is, unsigned-signed}
-use Rattle.float_format.proofs.Order.{at-most-refl, unitsOf, magnitude-zero, above-at, under-at, above-negated, under-negated}
+use Rattle.float_format.proofs.Order.{at-most-refl, magnitude-zero, above-at, under-at, above-negated, under-negated}
 use Rattle.float_format.proofs.Laws.{one-pos}
 use Rattle.ordering.specs.Ordering.{fmin, fmax}
 use Rattle.ordering.proofs.MinMax.{fmin-first}

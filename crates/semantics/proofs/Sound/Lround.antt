@@ -10,11 +10,11 @@ use lib.IntN.{ℤ}
 use lib.Signed.{leZ}
 use borrow.Author.Tests.{eqb-true}
 use Rattle.float_format.specs.Format.{binary64, infinity, negative, unsigned, isNan, isInfinite}
-use Rattle.float_format.specs.Number.{one, above, under, AtMost}
+use Rattle.float_format.specs.Number.{one, above, under, AtMost, unitsOf}
 use Rattle.float_format.specs.Rounding.{wholePart, integral, withSign, lroundRefusal, lroundValue}
 use Rattle.float_format.specs.declared.Direction.the-variants.{HalfAway}
 use Rattle.float_format.proofs.Units.{lt-or-ge}
-use Rattle.float_format.proofs.Order.{unitsOf, above-at, under-at}
+use Rattle.float_format.proofs.Order.{above-at, under-at}
 use Rattle.float_format.proofs.Laws.{one-pos, Result, result, monotone}
 use Rattle.float_format.proofs.Lround.{InRange, lround-infinite, lround-accepts, lround-is}
 use Rattle.ordering.proofs.Ranks.{finite-where}

@@ -22,7 +22,7 @@ pub fn ldexp(format: &Format, x: u64, n: i64) -> Answer {
 }
 
 /// The sign-less pattern of significand · 2^(exponent + n) units, rounded.
-fn scaled(format: &Format, significand: u64, exponent: i64, n: i64) -> u64 {
+pub fn scaled(format: &Format, significand: u64, exponent: i64, n: i64) -> u64 {
     let exponent = exponent.saturating_add(n);
     // The place of the leading digit, and of the last that the format can write.
     let leading = exponent.saturating_add(size(significand) as i64 - 1);

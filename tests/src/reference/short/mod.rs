@@ -5,6 +5,7 @@
 //! fits a machine word, and patterns are compared and counted in place of the numbers they stand
 //! for. The tests hold the two against each other.
 
+pub mod conversion;
 pub mod fmod;
 pub mod ldexp;
 pub mod order;

@@ -11,15 +11,14 @@ use native.Mathlib.Omega.{arith}
 use lib.Pow.{pow-pos, pow-mono, pow-add}
 use lib.Ieee.{size}
 use lib.Ieee.Digits.{size-lt, size-le, size-reaches}
-use Rattle.float_format.specs.Number.{magnitude, encode}
-use Rattle.float_format.specs.Rounding.{parts}
+use Rattle.float_format.specs.Number.{magnitude, encode, distance}
+use Rattle.float_format.specs.Rounding.{parts, nearest}
 use Rattle.float_format.specs.declared.Direction.{Direction}
 use Rattle.float_format.specs.declared.Direction.the-variants.{HalfEven}
 use Rattle.float_format.proofs.Units.{lt-or-ge, encode-at, encode-low, magnitude-at, magnitude-low, magnitude-mono, magnitude-mono-le, magnitude-cancel, Normal, normal}
 use Rattle.float_format.proofs.Parts.{parts-least, parts-most, parts-scale}
-use Rattle.float_format.proofs.Bounds.{distance, Near, Nearer, half-even-near, near-nearest, near-only}
-use Rattle.scaling.specs.Scaling.{nearest}
-use Rattle.scaling.proofs.Powers.{swap, product-pos, cancel-right}
+use Rattle.float_format.proofs.Bounds.{Near, Nearer, half-even-near, near-nearest, near-only}
+use Rattle.float_format.proofs.Powers.{swap, product-pos, cancel-right}
 
 -- ---- patterns
 

@@ -1,9 +1,9 @@
 -- `shifted` meets its contract: the sum carries into the quotient exactly where the rounding goes on. Assumes nothing.
 use native.Mathlib.Omega.{arith}
-use Rattle.scaling.proofs.Places.{Shifted, shifted, shifted-out}
+use Rattle.float_format.proofs.Shifting.{Shifted, shifted, shifted-out}
 use borrow.Author.Needs.{needs}
-use Rattle.scaling.proofs.shifted.Statement.{statement}
-use Rattle.scaling.proofs.shifted.Tie as tie
+use Rattle.float_format.proofs.width.shifted.Statement.{statement}
+use Rattle.float_format.proofs.width.shifted.Tie as tie
 
 at : (c : tie.After-power) → Shifted (c .before .before .args .fraction) (c .before .before .args .m) (c .power .result) (c .before .before .args .d)
 at c =

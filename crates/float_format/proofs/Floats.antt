@@ -14,12 +14,11 @@ use lib.Ieee.Exact.{HasValue, odd-sign, round-exact}
 use lib.Ieee.Fits.{down-pos}
 use lib.Ieee.Bits.{toBits-ofBits, nanBits-is, nanBits-above}
 use borrow.Author.Tests.{eq-eqb, ne-eqb, le-ltb}
 use Rattle.float_format.specs.Format.{Format, Valid, signBit, topField, infinity, negative, unsigned, signed, exponentField, fractionField}
-use Rattle.float_format.specs.Number.{magnitude, encode, bias}
+use Rattle.float_format.specs.Number.{magnitude, encode, bias, unitsOf}
 use Rattle.float_format.proofs.Units.{lt-or-ge, magnitude-low, magnitude-mono, Normal, normal}
 use Rattle.float_format.proofs.Whole.{power-up}
 use Rattle.float_format.proofs.Integral.{room}
-use Rattle.float_format.proofs.Order.{unitsOf}
 
 -- ---- the formats
 

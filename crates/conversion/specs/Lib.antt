@@ -1,0 +1,2 @@
+-- What the contracts of `conversion` cite.
+pub mod Conversion
