@@ -1,10 +1,11 @@
 /*
  * Estrenwind: rounding, splitting, scaling and remainders of IEEE 754 numbers, exact to the last bit, and recipes of such steps.
  *
- * A function whose name ends in _f64, _f32 or _f16 takes and returns bit patterns: the 64 bits of a double as a uint64_t, the 32
- * bits of a float as a uint32_t, the 16 bits of a half (binary16) as a uint16_t. So a host cannot change a NaN's bits on the way in or out, and what a function makes of a NaN
- * is what its comment says: mostly the same NaN "quieted", which means the same pattern with the top fraction bit set. Under
- * each pair stand two forms on double and float, with C's names, that only move the bits.
+ * A function whose name ends in _f64, _f32 or _f16 takes and returns bit patterns: the 64 bits of a double as a uint64_t, the
+ * 32 bits of a float as a uint32_t, the 16 bits of a half (binary16) as a uint16_t. So a host cannot change a NaN's bits on the
+ * way in or out, and what a function makes of a NaN is what its comment says: mostly the same NaN "quieted", which means the
+ * same pattern with the top fraction bit set. Under each pair stand two forms on double and float, with C's names, that only
+ * move the bits.
  *
  * Every answer is worked out in whole-number arithmetic. None depends on the rounding mode, on flush-to-zero (FTZ) or on
  * denormals-are-zero (DAZ); none reads or sets errno or an exception flag. Code compiled with -ffast-math may assume that
@@ -238,7 +239,7 @@ static inline ew_whole ew_lroundf(float x) { return ew_lround_f32(ew_bits_f32(x)
 /*
  * Halves have no C type of their own here: they are patterns, and what is worked out with them is worked out in floats. The five
  * roundings above have a form on halves, _f16, which gives what ew_f16_to_f32, the same rounding on floats and ew_f32_to_f16
- * give, for every pattern.
+ * give, for every pattern. Two forms below have a float in place of its pattern.
  */
 
 /*
@@ -250,6 +251,7 @@ static inline ew_whole ew_lroundf(float x) { return ew_lround_f32(ew_bits_f32(x)
  *     f16_to_f32(NaN) = a NaN with its sign and its payload, quieted; the float's further bits are zero
  */
 uint32_t ew_f16_to_f32(uint16_t x);
+static inline float ew_f16_to_float(uint16_t x) { return ew_value_f32(ew_f16_to_f32(x)); }
 
 /*
  * ew_f32_to_f16 returns the half nearest to x, and of two equally near the even one. A zero result has x's sign. A half that
@@ -264,6 +266,7 @@ uint32_t ew_f16_to_f32(uint16_t x);
  * Refuses 3 (EW_REFUSED_RANGE) where x is finite and 65520 or more in magnitude: the infinity of x's sign.
  */
 ew_word16 ew_f32_to_f16(uint32_t x);
+static inline ew_word16 ew_float_to_f16(float x) { return ew_f32_to_f16(ew_bits_f32(x)); }
 
 /* ---- Splitting and scaling ---- */
 

@@ -361,12 +361,18 @@ static void check_all(void)
     }
     for (i = 0; i < LENGTH(words16); i++)
         check(words16[i].name, words16[i].x, words16[i].pattern(words16[i].x), words16[i].expected);
-    for (i = 0; i < LENGTH(imports); i++)
-        check("f16_to_f32", imports[i].x, ew_f16_to_f32(imports[i].x), imports[i].expected);
+    for (i = 0; i < LENGTH(imports); i++) {
+        const uint16_t x = imports[i].x;
+        check("f16_to_f32", x, ew_f16_to_f32(x), imports[i].expected);
+        check("f16_to_float", x, ew_bits_f32(ew_f16_to_float(x)), imports[i].expected);
+    }
     for (i = 0; i < LENGTH(exports); i++) {
-        const ew_word16 half = ew_f32_to_f16(exports[i].x);
-        check("f32_to_f16", exports[i].x, half.word, exports[i].expected);
-        check("f32_to_f16", exports[i].x, half.refusal, exports[i].refusal);
+        const uint32_t x = exports[i].x;
+        const ew_word16 pattern = ew_f32_to_f16(x), value = ew_float_to_f16(ew_value_f32(x));
+        check("f32_to_f16", x, pattern.word, exports[i].expected);
+        check("f32_to_f16", x, pattern.refusal, exports[i].refusal);
+        check("float_to_f16", x, value.word, exports[i].expected);
+        check("float_to_f16", x, value.refusal, exports[i].refusal);
     }
     for (i = 0; i < LENGTH(wholes64); i++) {
         const uint64_t x = wholes64[i].x;

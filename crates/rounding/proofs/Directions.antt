@@ -60,13 +60,16 @@ module _ (f : Format) (x e u : ℕ) (w : Finite f x e) (eu : u ≡ 2 ^ fractionS
   below-infinity : unsigned f x < infinity f
   below-infinity = rest-below f x e (topField f) (w .field) (w .finite)
 
-  -- a number up to the fraction's weight does not carry out of the word
-  room-for : (add : ℕ) → add ≤ 2 ^ f .fraction → x + add < 2 ^ 64
-  room-for add h = go (sizes f (w .word))
+  -- a number up to the fraction's weight does not carry out of the pattern, let alone the word
+  pub stays-pattern : (add : ℕ) → add ≤ 2 ^ f .fraction → x + add < 2 * signBit f
+  stays-pattern add h = go (sizes f (w .word))
     where
-      go : Sizes f → x + add < 2 ^ 64
+      go : Sizes f → x + add < 2 * signBit f
       go z =
-          ⊎-elim (λ l. omega (arith, plus f x (w .pattern) l .1, below-infinity, z .room .top, z .sign-le)) (λ g. omega (arith, minus f x (w .pattern) g .1, below-infinity, z .room .top, z .sign-le)) (lt-or-ge x (signBit f))
+          ⊎-elim (λ l. omega (arith, plus f x (w .pattern) l .1, below-infinity, z .room .top)) (λ g. omega (arith, minus f x (w .pattern) g .1, below-infinity, z .room .top)) (lt-or-ge x (signBit f))
+
+  room-for : (add : ℕ) → add ≤ 2 ^ f .fraction → x + add < 2 ^ 64
+  room-for add h = omega (arith, stays-pattern add h, sizes f (w .word) .sign-le)
 
   rest : unsigned f x % u < u
   rest = mod-lt (unsigned f x) unit-pos

@@ -2,6 +2,6 @@
 pub mod Shifts
 pub mod Carry
 pub mod Directions
+pub mod Masks
 pub mod Count
-pub mod Single
 pub mod AsWhole

@@ -2,7 +2,7 @@
 -- assumes nothing.
 use mathlib.Core.Path.{_≡_}
 use mathlib.Core.Bool.{cond}
-use Prim.Native.Nat.{ℕ, _+_, _-_, _%_, _≤_, _<_}
+use Prim.Native.Nat.{ℕ, _+_, _-_, _*_, _%_, _^_, _≤_, _<_}
 use lib.Dec.{ltb}
 use Rattle.float_format.specs.Format.{Format, topField}
 use Rattle.float_format.specs.Number.{bias}
@@ -26,3 +26,8 @@ BelowOne f d x e r = e < bias f → r ≡ integral f d x
 -- not used.
 abbrev pub fractionShift : Format → ℕ → ℕ
 fractionShift f e = cond (ltb e (bias f + f .fraction)) ((bias f + f .fraction - e) % 64) 0
+
+-- what is known of the ones that stand below one in a pattern with the exponent field e: from one half on, all is
+pub record Mask (f : Format) (e mask : ℕ) : Type 0 where
+  pub most : mask < 2 * 2 ^ f .fraction
+  pub from-half : bias f ≤ e + 1 → mask ≡ 2 ^ (bias f + f .fraction - e) - 1

@@ -47,8 +47,8 @@ pub fn trunc(x: u32) -> u32
     ) as u32
 }
 
-// Round has a body of its own here, in words of 32 bits, which is a tenth faster than the one with the width open. Half of the unit is
-// added, and what stands below the unit is cut off by a mask: 23 bits from one half up to one, all but the sign below.
+// The general round's steps in words of 32 bits, which is a tenth faster. What is cut off is 23 bits from one half up to one, and all but
+// the sign below.
 fn round_finite(x: u32, e: u32) -> u32
     requires { ⌜ Finite binary32 x e ⌝ }
     ensures { λ r. ⌜ r ≡ integral binary32 Direction.HalfAway x ⌝ }

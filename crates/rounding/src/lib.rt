@@ -6,13 +6,13 @@
 // branch that is taken now and then.
 ghost use mathlib.Core.Path.{_≡_};
 ghost use Prim.Native.Nat.{_+_, _-_, _*_, _/_, _%_, _^_, _<_, _≤_};
-ghost use Rattle.float_format.specs.Format.{signBit, exponentField};
+ghost use Rattle.float_format.specs.Format.{signBit, topField, exponentField};
 ghost use Rattle.float_format.specs.Number.{bias};
 ghost use Rattle.float_format.specs.Rounding.{wholePart, integral, withSign, lroundRefusal, lroundValue};
 ghost use Rattle.float_format.specs.declared.Direction.the-variants.{Down, Up, TowardZero, HalfAway, HalfEven};
 ghost use Rattle.rounding.specs.Answer.{refusalOf, valueOf};
 ghost use Rattle.float_format.specs.Width.{format, InWord, Finite};
-ghost use Rattle.rounding.specs.Shape.{Reaches63, FromOne, BelowOne, fractionShift};
+ghost use Rattle.rounding.specs.Shape.{Reaches63, FromOne, BelowOne, fractionShift, Mask};
 use float_format::Direction;
 use float_format::width::bias_of;
 use float_format::width::field;
@@ -149,27 +149,37 @@ fn trunc_below_one(fraction: u64, exponent: u64, x: u64, e: u64) -> u64
 
 // ---- round
 
-// Half a unit is added before the cut; a whole number has the unit 1, and none is.
-fn round_from_one(fraction: u64, exponent: u64, x: u64, e: u64) -> u64
-    requires { ⌜ Finite (format fraction exponent) x e ⌝ }
-    ensures { λ r. ⌜ FromOne (format fraction exponent) HalfAway x e r ⌝ }
+// What stands below one in a pattern with the exponent field e, as ones: for a half that is one bit more than a fraction has. Below
+// one half it is some other number.
+fn fraction_mask(fraction: u64, exponent: u64, e: u64) -> u64
+    requires { ⌜ InWord (format fraction exponent) × (e < topField (format fraction exponent)) ⌝ }
+    ensures { λ r. ⌜ Mask (format fraction exponent) e r ⌝ }
 {
-    let unit = unit_at(fraction, exponent, e);
-    cut(x + unit / 2, unit)
+    let bias = bias_of(fraction, exponent);
+    let ones = 2 * power(fraction) - 1;
+    if e < bias + fraction {
+        ones >> ((e + 65 - bias % 64) % 64)
+    } else {
+        0
+    }
 }
 
-// From one half on, which is one exponent field, the answer is one.
-fn round_below_one(fraction: u64, exponent: u64, x: u64, e: u64) -> u64
+// Half of the unit is added, and what stands below the unit is cut off: the fraction's bits from one half up to one, all but the sign
+// below. One body for both sides of one: that is faster here than two answers of which one is picked.
+fn round_finite(fraction: u64, exponent: u64, x: u64, e: u64) -> u64
     requires { ⌜ Finite (format fraction exponent) x e ⌝ }
-    ensures { λ r. ⌜ BelowOne (format fraction exponent) HalfAway x e r ⌝ }
+    ensures { λ r. ⌜ (r ≡ integral (format fraction exponent) HalfAway x) × (r < 2 * signBit (format fraction exponent)) ⌝ }
 {
-    let zero = signed_zero(fraction, exponent, x);
-    let away = zero + one(fraction, exponent);
-    if e + 1 == bias_of(fraction, exponent) {
-        away
+    let mask = fraction_mask(fraction, exponent, e);
+    let sum = x + (mask + 1) / 2;
+    let low = mask % power(fraction);
+    let all = sign_bit(fraction, exponent) - 1;
+    let below = if e + 1 < bias_of(fraction, exponent) {
+        all
     } else {
-        zero
-    }
+        low
+    };
+    sum & !below
 }
 
 // ---- nearbyint
@@ -207,7 +217,7 @@ fn from_one(direction: Direction, fraction: u64, exponent: u64, x: u64, e: u64) 
         Direction::Down => floor_from_one(fraction, exponent, x, e),
         Direction::Up => ceil_from_one(fraction, exponent, x, e),
         Direction::TowardZero => trunc_from_one(fraction, exponent, x, e),
-        Direction::HalfAway => round_from_one(fraction, exponent, x, e),
+        Direction::HalfAway => round_finite(fraction, exponent, x, e),
         Direction::HalfEven => nearbyint_from_one(fraction, exponent, x, e),
     }
 }
@@ -220,7 +230,7 @@ fn below_one(direction: Direction, fraction: u64, exponent: u64, x: u64, e: u64)
         Direction::Down => floor_below_one(fraction, exponent, x, e),
         Direction::Up => ceil_below_one(fraction, exponent, x, e),
         Direction::TowardZero => trunc_below_one(fraction, exponent, x, e),
-        Direction::HalfAway => round_below_one(fraction, exponent, x, e),
+        Direction::HalfAway => round_finite(fraction, exponent, x, e),
         Direction::HalfEven => nearbyint_below_one(fraction, exponent, x, e),
     }
 }

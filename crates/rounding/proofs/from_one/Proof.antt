@@ -24,8 +24,8 @@ trunc-from-one-requires c κs = search needs
 enum-told-4 : tie.Need-enum-told-4
 enum-told-4 c = search needs
 
-round-from-one-requires : tie.Need-round-from-one-requires
-round-from-one-requires c κs = search needs
+round-finite-requires : tie.Need-round-finite-requires
+round-finite-requires c κs = search needs
 
 enum-told-5 : tie.Need-enum-told-5
 enum-told-5 c = search needs
@@ -43,7 +43,7 @@ returns-3 : tie.Need-returns-3
 returns-3 c = rw (c .before .enum-told3 .given .1) (c .trunc-from-one .ensures)
 
 returns-4 : tie.Need-returns-4
-returns-4 c = rw (c .before .enum-told4 .given .1) (c .round-from-one .ensures)
+returns-4 c = rw (c .before .enum-told4 .given .1) (λ h. c .round-finite .ensures .0)
 
 returns-5 : tie.Need-returns-5
 returns-5 c = rw (c .before .enum-told5 .given .1) (c .nearbyint-from-one .ensures)
@@ -59,7 +59,7 @@ from-one-spec =
     enum-told-3
     trunc-from-one-requires
     enum-told-4
-    round-from-one-requires
+    round-finite-requires
     enum-told-5
     nearbyint-from-one-requires
     returns
