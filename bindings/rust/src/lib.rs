@@ -1,7 +1,8 @@
 //! Rounding, splitting, scaling and remainders of IEEE 754 numbers, exact to the last bit, and recipes of such steps.
 //!
-//! Every function takes and gives `f64` or `f32`; the module [`half`] has halves, as patterns. Every answer is worked out in whole-number arithmetic by the Estrenwind library, whose
-//! functions are proved: none depends on the processor, on the rounding mode, or on how subnormal numbers are treated.
+//! Every function takes and gives `f64` or `f32`; the module [`half`] has halves, as patterns. Every answer is worked out in
+//! whole-number arithmetic by the Estrenwind library, whose functions are proved: none depends on the processor, on the rounding mode,
+//! or on how subnormal numbers are treated.
 //!
 //! ```
 //! assert_eq!(estrenwind::round(2.5), 3.0);
