@@ -69,14 +69,7 @@ impl Random {
         // The fraction bits below half a unit in the narrow format's last place.
         let lost = wide.fraction_bits - narrow.fraction_bits;
         let subnormal = (1 - narrow.bias() as i64 - exponent).max(0) as u32;
-        let bits = (lost - 1 + subnormal).min(wide.fraction_bits);
-        let multiple = x >> bits << bits;
-        match self.below(6) {
-            0 | 1 => x,
-            2 | 3 => multiple,
-            4 => multiple - 1,
-            _ => multiple + 1,
-        }
+        self.near_multiple(x, (lost - 1 + subnormal).min(wide.fraction_bits))
     }
 }
 

@@ -99,7 +99,11 @@ impl Random {
         let uniform = self.uniform(format);
         let sign = uniform & format.sign_bit();
         let x = sign | field << format.fraction_bits | format.fraction(uniform);
-        let bits = bits_below_half(format, field);
+        self.near_multiple(x, bits_below_half(format, field))
+    }
+
+    /// x, or the multiple of 2^bits below it, or a number right beside that one.
+    pub fn near_multiple(&mut self, x: u64, bits: u32) -> u64 {
         let multiple = x >> bits << bits;
         match self.below(6) {
             0 | 1 => x,

@@ -8,31 +8,11 @@ use estrenwind_tests::reference::conversion::converted;
 use estrenwind_tests::reference::natural::Natural;
 use estrenwind_tests::reference::{Class, Format, BINARY16, BINARY32};
 
-/// The count of the pattern of `to` nearest to a finite x of `from`, found by looking for the first
-/// one that is not below. Infinity counts as the number that would come after the largest, and of
-/// two equally near the pattern that is even is taken.
+/// The count of the pattern of `to` nearest to a finite x of `from`: ones of both formats are brought
+/// to the same size.
 fn nearest(from: &Counted, to: &Counted, x: u64) -> usize {
-    // Ones of both formats are brought to the same size.
     let exact = from.units(from.index(x)) * to.one as u128;
-    let at = |index: usize| to.units(index) * from.one as u128;
-    let (mut low, mut high) = (0, to.infinity());
-    if exact >= at(high) {
-        return high;
-    }
-    while high - low > 1 {
-        let middle = (low + high) / 2;
-        if at(middle) <= exact {
-            low = middle;
-        } else {
-            high = middle;
-        }
-    }
-    let (below, above) = (exact - at(low), at(high) - exact);
-    if below < above || below == above && low % 2 == 0 {
-        low
-    } else {
-        high
-    }
+    to.nearest(exact, |units| units * from.one as u128)
 }
 
 #[test]

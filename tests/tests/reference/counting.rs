@@ -109,4 +109,29 @@ impl Counted {
             index
         }
     }
+
+    /// The count of the pattern nearest to a number of scaled units, found by looking for the first
+    /// one that is not below. Infinity counts as the number that would come after the largest, and of
+    /// two equally near the pattern that is even is taken.
+    pub fn nearest(&self, exact: u128, scaled: impl Fn(u128) -> u128) -> usize {
+        let at = |index: usize| scaled(self.units(index));
+        let (mut low, mut high) = (0, self.infinity());
+        if exact >= at(high) {
+            return high;
+        }
+        while high - low > 1 {
+            let middle = (low + high) / 2;
+            if at(middle) <= exact {
+                low = middle;
+            } else {
+                high = middle;
+            }
+        }
+        let (below, above) = (exact - at(low), at(high) - exact);
+        if below < above || below == above && low % 2 == 0 {
+            low
+        } else {
+            high
+        }
+    }
 }

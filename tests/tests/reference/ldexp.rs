@@ -4,31 +4,10 @@ use crate::counting::{Counted, SMALL};
 use estrenwind_tests::answer::Answer;
 use estrenwind_tests::reference::{ldexp, parts, Class, Format};
 
-/// The count of the pattern nearest to units · 2^n, found by looking for the first one that is not
-/// below. Infinity counts as the number that would come after the largest, and of two equally near
-/// the pattern that is even is taken.
+/// The count of the pattern nearest to units · 2^n.
 fn nearest(counted: &Counted, units: u128, n: i32) -> usize {
     let (up, down) = (n.max(0) as u32, (-n).max(0) as u32);
-    let exact = units << up;
-    let at = |index: usize| counted.units(index) << down;
-    let (mut low, mut high) = (0, counted.infinity());
-    if exact >= at(high) {
-        return high;
-    }
-    while high - low > 1 {
-        let middle = (low + high) / 2;
-        if at(middle) <= exact {
-            low = middle;
-        } else {
-            high = middle;
-        }
-    }
-    let (below, above) = (exact - at(low), at(high) - exact);
-    if below < above || below == above && low % 2 == 0 {
-        low
-    } else {
-        high
-    }
+    counted.nearest(units << up, |units| units << down)
 }
 
 fn check(format: &Format, counted: &Counted, x: u64, n: i64, index: usize) {
