@@ -1,9 +1,12 @@
 //! The header, docs/FORMATS.md and the manual pages tell the same refusals, and their examples are what the
-//! programs print. The version is the same wherever it stands, and the header's sizes are the reference's.
-//! docs/CONTRACTS.md names every must-fail edit, and no other.
+//! programs print; the tables of docs/HALVES.md have the reference's answers. The version is the same wherever
+//! it stands, and the header's sizes are the reference's. docs/CONTRACTS.md names every must-fail edit, and no
+//! other.
 
+use estrenwind_tests::answer::Answer;
 use estrenwind_tests::programs::{run_output, sheet_output};
 use estrenwind_tests::reference::recipe::{frame, sheet, text, Way};
+use estrenwind_tests::reference::{conversion, rounding, BINARY16, BINARY32};
 use std::collections::{BTreeMap, BTreeSet};
 use std::fs;
 use std::path::{Path, PathBuf};
@@ -208,4 +211,54 @@ fn contracts_names_every_edit() {
         .map(str::to_string)
         .collect();
     assert_eq!(named, edits);
+}
+
+/// The rows of the first table under a heading of docs/HALVES.md, cell by cell.
+fn halves(heading: &str) -> Vec<Vec<String>> {
+    let text = read("docs/HALVES.md");
+    let (_, section) = text.split_once(heading).expect("the heading is there");
+    let table = section.lines().skip_while(|line| !line.starts_with("| `"));
+    let rows = table.take_while(|line| line.starts_with("| `"));
+    let cells = |row: &str| row.split('|').map(|cell| cell.trim().to_string()).collect();
+    rows.map(cells).collect()
+}
+
+/// The number in a cell of a table, a pattern in hexadecimal or a refusal.
+fn number(cell: &str) -> u64 {
+    match cell
+        .strip_prefix('`')
+        .and_then(|cell| cell.strip_suffix('`'))
+    {
+        Some(pattern) => u64::from_str_radix(pattern, 16).unwrap(),
+        None => cell.parse().unwrap(),
+    }
+}
+
+#[test]
+fn tables_of_halves() {
+    for row in halves("## Import\n") {
+        let answer = conversion::converted(&BINARY16, &BINARY32, number(&row[1]));
+        assert_eq!(answer, Answer::word(number(&row[2])), "{row:?}");
+    }
+    for row in halves("## Export\n") {
+        let answer = conversion::converted(&BINARY32, &BINARY16, number(&row[1]));
+        let expected = Answer::refused(number(&row[4]), number(&row[3]));
+        assert_eq!(answer, expected, "{row:?}");
+    }
+    for row in halves("## Roundings\n") {
+        let x = number(&row[1]);
+        let roundings = [
+            rounding::floor,
+            rounding::ceil,
+            rounding::trunc,
+            rounding::round,
+            rounding::nearbyint,
+        ];
+        for (rounding, cell) in roundings.iter().zip(&row[3..8]) {
+            assert_eq!(rounding(&BINARY16, x), number(cell), "{row:?}");
+        }
+    }
+    let rows =
+        ["## Import\n", "## Export\n", "## Roundings\n"].map(|heading| halves(heading).len());
+    assert_eq!(rows, [9, 13, 7]);
 }
