@@ -63,7 +63,7 @@ enum { FLOATS = HEADERS, GCC = GLIBC, F16C = MUSL, IMATH = NEWLIB };
  * What is asked: that a subnormal import takes at most 4 times as long as a normal one; that import and export take no longer than the
  * compiler's, on each set; that a rounding takes no longer than that of the same numbers as floats, but for noise.
  */
-static const double SUBNORMAL_IMPORT = 4.0, BESIDE_GCC = 1.0, BESIDE_FLOATS = 1.1;
+static const double SUBNORMAL_IMPORT = 4.0, BESIDE_GCC = 1.0, BESIDE_FLOATS = 1.05;
 
 #define HALF_ROUNDING(name)                                                      \
     {#name, 16, 0, 0, 0, 0,                                                      \

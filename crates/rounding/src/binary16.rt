@@ -44,7 +44,7 @@ pub fn trunc(x: u16) -> u16
     ) as u16
 }
 
-// The integer nearest to x, halves away from zero. What is finite is told by the pattern and not by its field, which is faster at 16 bits.
+// The integer nearest to x, halves away from zero. What is finite is told by the pattern and not by its field: see docs/DECISIONS.md.
 pub fn round(x: u16) -> u16
     ensures { λ r. ⌜ r ≡ integral binary16 Direction.HalfAway x ⌝ }
 {

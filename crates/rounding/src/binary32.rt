@@ -47,8 +47,8 @@ pub fn trunc(x: u32) -> u32
     ) as u32
 }
 
-// The general round's steps in words of 32 bits, which is a tenth faster. What is cut off is 23 bits from one half up to one, and all but
-// the sign below.
+// The general round's steps in words of 32 bits, which was a tenth faster on texture-like numbers. What is cut off is 23 bits from one half
+// up to one, and all but the sign below.
 fn round_finite(x: u32, e: u32) -> u32
     requires { ⌜ Finite binary32 x e ⌝ }
     ensures { λ r. ⌜ r ≡ integral binary32 Direction.HalfAway x ⌝ }

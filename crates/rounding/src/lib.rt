@@ -149,8 +149,8 @@ fn trunc_below_one(fraction: u64, exponent: u64, x: u64, e: u64) -> u64
 
 // ---- round
 
-// What stands below one in a pattern with the exponent field e, as ones: for a half that is one bit more than a fraction has. Below
-// one half it is some other number.
+// What stands below one in a pattern with the exponent field e, as ones: from 0.5 up to one that is one bit more than a fraction has.
+// Below 0.5 it is some other number.
 fn fraction_mask(fraction: u64, exponent: u64, e: u64) -> u64
     requires { ⌜ InWord (format fraction exponent) × (e < topField (format fraction exponent)) ⌝ }
     ensures { λ r. ⌜ Mask (format fraction exponent) e r ⌝ }
