@@ -8,7 +8,8 @@ use Rattle.recipe.specs.declared.Step.{Step}
 use Rattle.semantics.specs.Value.{Datum, double, whole, Outcome, done}
 use Rattle.semantics.specs.Value as value
 use Rattle.semantics.specs.Range.{Range, doubles, wholes, Ranged, ranged, refused}
-use Rattle.semantics.specs.Sheet.{Sheet, passed, stepOn, onRanged}
+use Rattle.semantics.specs.Sheet.{Sheet, passed, stepOn}
+use Rattle.semantics.specs.Sheet as sheet
 
 -- from one value to another; of two kinds, which no rule gives, zero to zero
 abbrev pub spanned : Datum → Datum → Range
@@ -37,7 +38,20 @@ abbrev pub carried : Ranged → Ranged
 carried (ranged r) = ranged (carriedRange r)
 carried (refused n) = refused n
 
--- `sheetFrom`, with each range as floats hold it
-unfoldable pub carriedFrom : List Step → ℕ → List Range → Sheet
-carriedFrom [] k l = passed l
-carriedFrom (t ∷ ts) k l = onRanged (carried (stepOn t l)) k (λ r. carriedFrom ts (suc k) (l ++ (r ∷ [])))
+-- ---- a fold over steps, with each range as floats hold it
+
+unfoldable pub onCarried : {X : Type 0} → Ranged → (ℕ → X) → (Range → X) → X
+onCarried (ranged r) stop more = more r
+onCarried (refused number) stop more = stop number
+
+-- what comes of the ranges of all steps, or of the first step that is refused: its number, itself, the ranges before it and the refusal's number
+unfoldable pub folded : {X : Type 0} → (List Range → X) → (ℕ → Step → List Range → ℕ → X) → List Step → ℕ → List Range → X
+folded all stop [] k l = all l
+folded all stop (t ∷ ts) k l = onCarried (carried (stepOn t l)) (stop k t l) (λ r. folded all stop ts (suc k) (l ++ (r ∷ [])))
+
+-- `sheetFrom` so
+abbrev pub stopped : ℕ → Step → List Range → ℕ → Sheet
+stopped k t l number = sheet.refused number k
+
+abbrev pub carriedFrom : List Step → ℕ → List Range → Sheet
+carriedFrom ts k l = folded passed stopped ts k l

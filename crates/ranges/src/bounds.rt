@@ -62,7 +62,7 @@ fn is_positive(x: u64) -> bool
     double_above(x, 0)
 }
 
-fn is_infinite(x: u64) -> bool
+pub fn is_infinite(x: u64) -> bool
     ensures { λ r. ⌜ r ≡ isInfinite binary64 x ⌝ }
 {
     x % Binary64::SIGN == Binary64::INFINITY
@@ -74,7 +74,7 @@ fn infinite_end(low: u64, high: u64) -> bool
     any(is_infinite(low), is_infinite(high))
 }
 
-fn holds_zero(low: u64, high: u64) -> bool
+pub fn holds_zero(low: u64, high: u64) -> bool
     ensures { λ r. ⌜ r ≡ holdsZero (doubles low high) ⌝ }
 {
     if is_positive(low) {
@@ -161,7 +161,7 @@ fn fmod_range(low: u64, high: u64, s: u64, t: u64) -> Bound
 }
 
 // 23: away from zero by the greatest power, towards it by the least.
-fn low_power(low: u64, least: i64, most: i64) -> i64
+pub fn low_power(low: u64, least: i64, most: i64) -> i64
     ensures { λ r. ⌜ r ≡ cond (isNegative low) most least ⌝ }
 {
     if is_negative(low) {
@@ -170,7 +170,7 @@ fn low_power(low: u64, least: i64, most: i64) -> i64
     least
 }
 
-fn high_power(high: u64, least: i64, most: i64) -> i64
+pub fn high_power(high: u64, least: i64, most: i64) -> i64
     ensures { λ r. ⌜ r ≡ cond (isPositive high) most least ⌝ }
 {
     if is_positive(high) {

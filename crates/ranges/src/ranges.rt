@@ -30,7 +30,7 @@ impl Range {
     }
 
     // As an operand that is a double: the patterns of its ends.
-    pub(crate) fn low(self) -> u64
+    pub fn low(self) -> u64
         requires { ⌜ RealRange self ⌝ }
         ensures { λ r. ⌜ r ≡ low (seenRange self) ⌝ }
     {
@@ -40,7 +40,7 @@ impl Range {
         }
     }
 
-    pub(crate) fn high(self) -> u64
+    pub fn high(self) -> u64
         requires { ⌜ RealRange self ⌝ }
         ensures { λ r. ⌜ r ≡ high (seenRange self) ⌝ }
     {
@@ -51,7 +51,7 @@ impl Range {
     }
 
     // As an operand that is a whole number: its ends.
-    pub(crate) fn least(self) -> i64
+    pub fn least(self) -> i64
         ensures { λ r. ⌜ r ≡ least (seenRange self) ⌝ }
     {
         match self {
@@ -60,7 +60,7 @@ impl Range {
         }
     }
 
-    pub(crate) fn most(self) -> i64
+    pub fn most(self) -> i64
         ensures { λ r. ⌜ r ≡ most (seenRange self) ⌝ }
     {
         match self {

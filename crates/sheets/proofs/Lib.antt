@@ -1,4 +1,3 @@
 -- The laws of `sheets`.
 pub mod Showing
-pub mod Covering
 pub mod SheetCalls

@@ -21,7 +21,7 @@ use Rattle.semantics.proofs.Calls as law
 use Rattle.semantics.proofs.Sound.Recipes.{declared}
 use Rattle.ranges.specs.Carried.{carriedFrom}
 use Rattle.sheets.specs.Packed.{sheetWords}
-use Rattle.sheets.proofs.Covering.{carried-same}
+use Rattle.ranges.proofs.Covering.{carried-same}
 
 module _ (w : List ℕ) (room : ℕ) where
   -- refusal 10

@@ -1,106 +1,22 @@
--- The sheet's loops: the ranges step by step, and then their lines. The invariant `Shown` says that the sheet of the whole is the sheet of
--- the rest after the ranges so far; no end is a NaN. Assumes nothing.
+-- The sheet's lines, one after the other, over the bytes lent. Assumes nothing.
 use mathlib.Core.Path.{_≡_, refl, ap, sym, _∙_}
-use mathlib.Core.Bool.{cond}
 use mathlib.Core.List.{List, [], _∷_, _++_, map, map-append, append-assoc}
-use Prim.Native.Nat.{ℕ, suc, _+_, _*_, _≤_, _<_}
+use Prim.Native.Nat.{ℕ, _+_, _*_, _≤_, _<_}
 use native.Mathlib.Omega.{arith}
 use native.Mathlib.Numerals.{add-one}
-use lib.Dec.{ltb}
-use lib.IntN.{pos}
-use lib.ListN.{length, take, drop, set, getD, replicate, length-map, length-append, length-set, length-drop}
+use lib.ListN.{length, take, drop, set, getD, length-map, length-append, length-set, length-drop}
 use lib.Seq.{length-take-le, take-suc, take-at, drop-at, drop-drop, take-all}
 use Rattle.hex.specs.Hex.{digits}
 use Rattle.hex.proofs.Digits.{length-digits}
 use Rattle.hex.proofs.Parts.{put, set-next, put-next, length-put}
-use Rattle.recipe.specs.declared.Step.{Step}
 use Rattle.recipe.specs.Table.{kindNumber}
-use Rattle.recipe.specs.Text.{mostSteps, first, second}
-use Rattle.recipe.specs.Packed.{stepAt, stepsIn}
-use Rattle.recipe.proofs.Packed.{next-step, none-left}
+use Rattle.recipe.specs.Text.{first}
 use Rattle.ranges.specs.declared.Range.{Range}
-use Rattle.ranges.specs.declared.Range.the-variants.{Wholes}
-use Rattle.ranges.specs.declared.Bound.{Bound}
-use Rattle.ranges.specs.declared.Bound.the-variants.{Ranged, Refused}
-use Rattle.semantics.specs.Range.{kindOf, lowWord, highWord, stepRange}
+use Rattle.semantics.specs.Range.{kindOf, lowWord, highWord}
 use Rattle.semantics.specs.Range as range
-use Rattle.semantics.specs.Sheet.{passed, refused, stepOn, onRanged, sheetLine, lineOf, linesFrom, bytesOf}
-use Rattle.ranges.specs.Seen.{seenRange, RealRange, boundOf, RealBound}
-use Rattle.ranges.specs.Carried.{carried, carriedFrom}
-use Rattle.semantics.proofs.Lists.{grow}
+use Rattle.semantics.specs.Sheet.{passed, sheetLine, lineOf, linesFrom, bytesOf}
+use Rattle.ranges.specs.Seen.{seenRange}
 use Rattle.semantics.proofs.SheetLines.{length-lines, lines-more}
-use Rattle.semantics.proofs.Filled.{Filled, filled-start, filled-more, fetch-all, fetch}
-
--- what the array of ranges is filled with
-abbrev pub start : Range
-start = Wholes (record { low = pos 0; high = pos 0 })
-
--- ---- one step of the fold
-
-step-good : (t : Step) (ts : List Step) (k : ℕ) (l : List range.Range) (r : range.Range) → carried (stepOn t l) ≡ range.ranged r
-    → carriedFrom (t ∷ ts) k l ≡ carriedFrom ts (suc k) (l ++ (r ∷ []))
-unfolding carriedFrom onRanged
-step-good t ts k l r e = ap (λ x. onRanged x k (λ r. carriedFrom ts (suc k) (l ++ (r ∷ [])))) e
-
-step-bad : (t : Step) (ts : List Step) (k : ℕ) (l : List range.Range) (number : ℕ) → carried (stepOn t l) ≡ range.refused number
-    → carriedFrom (t ∷ ts) k l ≡ refused number k
-unfolding carriedFrom onRanged
-step-bad t ts k l number e = ap (λ x. onRanged x k (λ r. carriedFrom ts (suc k) (l ++ (r ∷ [])))) e
-
-steps-done : (k : ℕ) (l : List range.Range) → carriedFrom [] k l ≡ passed l
-unfolding carriedFrom
-steps-done k l = refl
-
--- ---- the ranges
-
--- of the n steps in the words w, i have their ranges, the first i of `ranges`
-pub record Shown (w : List ℕ) (n : ℕ) (ranges : List Range) (i : ℕ) : Type 0 where
-  pub within : i ≤ n
-  pub filled : Filled start RealRange ranges i
-  pub same : carriedFrom (stepsIn w n) 0 [] ≡ carriedFrom (drop i (stepsIn w n)) i (map seenRange (take i ranges))
-
-pub shown-start : (w : List ℕ) (n : ℕ) → Shown w n (replicate mostSteps start) 0
-shown-start w n = record { within = omega arith; filled = filled-start start RealRange tt; same = refl }
-
-module _ (w : List ℕ) (n : ℕ) (ranges : List Range) (i : ℕ) (g : Shown w n ranges i) where
-  -- no place holds a NaN
-  pub fetch-real : (f : ℕ) (d : Range) → f < mostSteps → RealRange (getD ranges f d)
-  fetch-real f d h = fetch-all start RealRange ranges i (g .filled) f d h
-
-  module _ (h : i < n) (m : n ≤ mostSteps) (t : Step) (et : t ≡ stepAt w i)
-      (f₁ f₂ : ℕ) (z : Range) (e₁ : f₁ ≡ cond (ltb (first t) i) (first t) i) (e₂ : f₂ ≡ cond (ltb (second t) i) (second t) i)
-      (r : Bound) (er : boundOf r ≡ carried (stepRange t (seenRange (getD ranges f₁ z)) (seenRange (getD ranges f₂ z)))) where
-    left : drop i (stepsIn w n) ≡ t ∷ drop (i + 1) (stepsIn w n)
-    left = rw et (next-step w n i h)
-
-    did : carried (stepOn t (map seenRange (take i ranges))) ≡ boundOf r
-    did =
-        rw (
-          sym (fetch start RealRange ranges i (g .filled) seenRange (first t) f₁ z (omega arith) e₁),
-          sym (fetch start RealRange ranges i (g .filled) seenRange (second t) f₂ z (omega arith) e₂),
-        ) (sym er)
-
-    pub shown-more : (v : Range) → r ≡ Ranged v → RealBound r → Shown w n (set ranges i v) (i + 1)
-    shown-more v e y =
-        let b : i < length ranges = omega (arith, g .filled .long) in
-        let x : RealRange v = rw e at y in
-        record {
-          within = omega arith;
-          filled = filled-more start RealRange ranges i (g .filled) v x (omega arith);
-          same = g .same
-              ∙ rw (left, grow ranges i v b, map-append, add-one)
-              (step-good t (drop (suc i) (stepsIn w n)) i (map seenRange (take i ranges)) (seenRange v) (did ∙ ap boundOf e));
-        }
-
-    pub shown-refused : (number : ℕ) → r ≡ Refused number → carriedFrom (stepsIn w n) 0 [] ≡ refused number i
-    shown-refused number e =
-        g .same ∙ rw left (step-bad t (drop (i + 1) (stepsIn w n)) i (map seenRange (take i ranges)) number (did ∙ ap boundOf e))
-
-  pub shown-done : n ≤ i → carriedFrom (stepsIn w n) 0 [] ≡ passed (map seenRange (take n ranges))
-  shown-done h =
-      let b = g .within in
-      let e : n ≡ i = omega arith in
-      g .same ∙ rw (none-left w n i h) (steps-done i (map seenRange (take i ranges)) ∙ ap (λ (k : ℕ). passed (map seenRange (take k ranges))) (sym e))
 
 -- ---- a line, written front to back
 

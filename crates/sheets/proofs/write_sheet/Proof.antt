@@ -1,4 +1,4 @@
--- `write_sheet` meets its contract. The first loop's invariant is `Showing.Shown`: the sheet comes to what is left of it after the ranges so far.
+-- `write_sheet` meets its contract. The first loop's invariant is `Folding.Walked`: the sheet comes to what is left of it after the ranges so far.
 -- The second loop's: the bytes so far are the lines of the first j ranges, and the rest as lent. The measures are the steps left. Assumes
 -- nothing.
 use mathlib.Core.Path.{_≡_, refl, _∙_}
@@ -10,15 +10,17 @@ use lib.ListN.{length, take, length-map}
 use lib.Seq.{length-take-le}
 use denote.Ref.{now}
 use borrow.Author.Needs.{needs}
-use Rattle.semantics.specs.Sheet.{sheetLine}
+use Rattle.semantics.specs.Sheet.{passed, sheetLine}
 use Rattle.ranges.specs.declared.Range.the-variants.{Doubles}
 use Rattle.ranges.specs.Seen.{seenRange}
-use Rattle.sheets.proofs.Showing.{Shown, shown-start, shown-more, shown-refused, shown-done, fetch-real, lines, lines-none, lines-length, lines-next, all-lines}
+use Rattle.ranges.specs.Carried.{stopped}
+use Rattle.ranges.proofs.Folding.{Walked, walked-start, walked-more, walked-refused, walked-done, fetch-real}
+use Rattle.sheets.proofs.Showing.{lines, lines-none, lines-length, lines-next, all-lines}
 use Rattle.sheets.proofs.write_sheet.Statement.{statement}
 use Rattle.sheets.proofs.write_sheet.Tie as tie
 
 abbrev Inv-loop : tie.InvT-loop
-Inv-loop steps n bytes ranges₀ i₀ ranges i = Shown steps n ranges i
+Inv-loop steps n bytes ranges₀ i₀ ranges i = Walked passed stopped steps n ranges i
 
 abbrev μ-loop : tie.MeasureT-loop
 μ-loop steps n bytes ranges₀ i₀ ranges i = n - i
@@ -30,7 +32,7 @@ abbrev μ-loop2 : tie.MeasureT-loop2
 μ-loop2 steps n bytes₀ ranges i j₀ bytes j = n - j
 
 loop-holds : tie.Need-loop-holds Inv-loop μ-loop Inv-loop2 μ-loop2
-loop-holds c = let a = c .before .before .args in shown-start (now (a .steps)) (a .n)
+loop-holds c = let a = c .before .before .args in walked-start passed stopped (now (a .steps)) (a .n)
 
 step-at-requires : tie.Need-step-at-requires Inv-loop μ-loop Inv-loop2 μ-loop2
 step-at-requires c κs = omega arith
@@ -57,8 +59,8 @@ step-range-requires : tie.Need-step-range-requires Inv-loop μ-loop Inv-loop2 μ
 step-range-requires c κs =
     let a = c .before .before .before .before .before .before .before .before .before .args in
     let l = c .before .before .before .before .before .before .loop in (
-      fetch-real (now (a .steps)) (a .n) (l .ranges) (l .i) (l .inv) _ _ (omega (arith, c .before .before .before .place-of .ensures .1)),
-      fetch-real (now (a .steps)) (a .n) (l .ranges) (l .i) (l .inv) _ _ (omega (arith, c .before .before .place-of2 .ensures .1)),
+      fetch-real passed stopped (now (a .steps)) (a .n) (l .ranges) (l .i) (l .inv) _ _ (omega (arith, c .before .before .before .place-of .ensures .1)),
+      fetch-real passed stopped (now (a .steps)) (a .n) (l .ranges) (l .i) (l .inv) _ _ (omega (arith, c .before .before .place-of2 .ensures .1)),
     )
 
 enum-known-r : tie.Need-enum-known-r Inv-loop μ-loop Inv-loop2 μ-loop2
@@ -78,7 +80,7 @@ returns c =
     let a = c .before .before .before .before .before .before .before .before .before .before .before .before .before .before .args in
     let l = c .before .before .before .before .before .before .before .before .before .before .before .loop in
     rw (
-    shown-refused (now (a .steps)) (a .n) (l .ranges) (l .i) (l .inv) (omega arith) (omega arith) _ (c .before .before .before .before .before .before .before .before .before .step-at .ensures) _ _ (Doubles (record { low = nan; high = nan }))
+    walked-refused passed stopped (now (a .steps)) (a .n) (l .ranges) (l .i) (l .inv) (omega arith) (omega arith) _ (c .before .before .before .before .before .before .before .before .before .step-at .ensures) _ _ (Doubles (record { low = nan; high = nan }))
     (c .before .before .before .before .before .before .before .before .place-of .ensures .0) (c .before .before .before .before .before .before .before .place-of2 .ensures .0) _ (c .before .before .before .before .step-range .ensures .0) _ (c .before .before .number .given .1)) (c .refusal-at .ensures, refl)
 
 mul-ranges : tie.Need-mul-ranges Inv-loop μ-loop Inv-loop2 μ-loop2
@@ -97,7 +99,7 @@ loop-again : tie.Need-loop-again Inv-loop μ-loop Inv-loop2 μ-loop2
 loop-again c =
     let a = c .before .before .before .before .before .before .before .before .before .before .before .before .before .args in
     let l = c .before .before .before .before .before .before .before .before .before .before .loop in
-    shown-more (now (a .steps)) (a .n) (l .ranges) (l .i) (l .inv) (omega arith) (omega arith) _ (c .before .before .before .before .before .before .before .before .step-at .ensures) _ _ (Doubles (record { low = nan; high = nan }))
+    walked-more passed stopped (now (a .steps)) (a .n) (l .ranges) (l .i) (l .inv) (omega arith) (omega arith) _ (c .before .before .before .before .before .before .before .before .step-at .ensures) _ _ (Doubles (record { low = nan; high = nan }))
     (c .before .before .before .before .before .before .before .place-of .ensures .0) (c .before .before .before .before .before .before .place-of2 .ensures .0) _ (c .before .before .before .step-range .ensures .0) _ (c .before .r .given .1) (c .before .before .before .step-range .ensures .1)
 
 loop2-holds : tie.Need-loop2-holds Inv-loop μ-loop Inv-loop2 μ-loop2
@@ -134,7 +136,7 @@ write-line-requires : tie.Need-write-line-requires Inv-loop μ-loop Inv-loop2 μ
 write-line-requires c κs =
     let a = c .before .before .before .before .before .before .before .before .args in
     let l = c .before .before .before .before .before .loop in
-    (c .write-line-arg .given .2 ∙ omega arith, fetch-real (now (a .steps)) (a .n) (l .ranges) (l .i) (l .inv) _ _ (omega arith))
+    (c .write-line-arg .given .2 ∙ omega arith, fetch-real passed stopped (now (a .steps)) (a .n) (l .ranges) (l .i) (l .inv) _ _ (omega arith))
 
 add-j : tie.Need-add-j Inv-loop μ-loop Inv-loop2 μ-loop2
 add-j c = omega arith
@@ -166,7 +168,7 @@ returns-2 c =
     let w = l .inv .filled .long in
     let e : k .j ≡ a .n = omega arith in
     let m : length (map seenRange (take (a .n) (l .ranges))) ≡ a .n = length-map (take (a .n) (l .ranges)) seenRange ∙ length-take-le (a .n) (l .ranges) (omega arith) in
-    rw (shown-done (now (a .steps)) (a .n) (l .ranges) (l .i) (l .inv) (omega arith)) (rw m, rw (k .inv .1, e) (all-lines (l .ranges) (a .n) (now (a .bytes)) (omega arith)))
+    rw (walked-done passed stopped (now (a .steps)) (a .n) (l .ranges) (l .i) (l .inv) (omega arith)) (rw m, rw (k .inv .1, e) (all-lines (l .ranges) (a .n) (now (a .bytes)) (omega arith)))
 
 pub write-sheet-spec : {M : Type 1} → statement M
 write-sheet-spec =

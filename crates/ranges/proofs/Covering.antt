@@ -1,6 +1,7 @@
--- The sheet as floats carry it is the sheet: of steps that were read no range has an end that is a NaN. Each step's range holds some value,
--- as the sheet's promise says of the values before it, and a range that holds a value is one of numbers. Assumes nothing.
-use mathlib.Core.Path.{_≡_, refl}
+-- Floats carry the ranges of steps that were read as they are, so that the sheet as floats carry it is the sheet: no such range has an end that is
+-- a NaN. Each step's range holds some value, as the sheet's promise says of the values before it, and a range that holds a value is one of
+-- numbers. Assumes nothing.
+use mathlib.Core.Path.{_≡_, refl, sym, ap, _∙_}
 use mathlib.Core.Bool.{_||_, false}
 use mathlib.Core.List.{List, [], _∷_, _++_}
 use Prim.Native.Nat.{ℕ, suc, _+_}
@@ -24,7 +25,7 @@ use Rattle.semantics.specs.Frame.{outside}
 use Rattle.semantics.specs.Run.{noValue}
 use Rattle.semantics.specs.Sheet.{noRange, stepOn, onRanged, sheetFrom}
 use Rattle.semantics.specs.Promise.{Lies, Proper}
-use Rattle.ranges.specs.Carried.{number, carriedRange, carried, carriedFrom}
+use Rattle.ranges.specs.Carried.{number, carriedRange, carried, onCarried, folded, stopped, carriedFrom}
 use Rattle.semantics.proofs.Sound.Kept.{Kept, no-or}
 use Rattle.semantics.proofs.Sound.Inputs.{whole-constant}
 use Rattle.semantics.proofs.Sound.Steps.{step-kept}
@@ -60,23 +61,44 @@ pub record Covered (rs : List Range) : Type 0 where
   pub values : List Datum
   pub covers : Covers rs values
 
-next : (ts : List Step) (k : ℕ) (rs : List Range) (R : Ranged) (o : Outcome) → Kept R o
-    → ((r : Range) (v : Datum) → Lies r v → Proper r → carriedFrom ts (suc k) (rs ++ (r ∷ [])) ≡ sheetFrom ts (suc k) (rs ++ (r ∷ [])))
-    → onRanged (carried R) k (λ r. carriedFrom ts (suc k) (rs ++ (r ∷ []))) ≡ onRanged R k (λ r. sheetFrom ts (suc k) (rs ++ (r ∷ [])))
-unfolding onRanged
-next ts k rs (ranged r) o h more = rw (carried-proper r (h .proper)) (more r (h .value) (h .lies) (h .proper))
-next ts k rs (range.refused number) o h more = refl
+-- floats carry every range that a fold over the steps comes to, as it is
+pub data Carries : List Step → List Range → Type 0 where
+  at-end : (rs : List Range) → Carries [] rs
+  at-step : (t : Step) (ts : List Step) (rs : List Range) → carried (stepOn t rs) ≡ stepOn t rs → ((r : Range) → stepOn t rs ≡ ranged r → Carries ts (rs ++ (r ∷ [])))
+      → Carries (t ∷ ts) rs
 
-same-from : (ls : List Step) (k : ℕ) (rs : List Range) → Declared ls → Covered rs → carriedFrom ls k rs ≡ sheetFrom ls k rs
-unfolding carriedFrom sheetFrom
-same-from [] k rs d c = refl
-same-from (t ∷ ts) k rs d c =
+carries-from : (ls : List Step) (rs : List Range) → Declared ls → Covered rs → Carries ls rs
+carries-from [] rs d c = at-end rs
+carries-from (t ∷ ts) rs d c =
     let v = c .covers in
     let b : badRange (rowOf (t .opcode)) t ≡ false = d 0 (omega arith) in
-    next ts k rs (stepOn t rs) (stepValue t (t .p) (getD (c .values) (first t) noValue) (getD (c .values) (second t) noValue))
+    next (stepOn t rs) refl (stepValue t (t .p) (getD (c .values) (first t) noValue) (getD (c .values) (second t) noValue))
     (step-kept t (t .p) (getD rs (first t) noRange) (getD rs (second t) noRange) (getD (c .values) (first t) noValue) (getD (c .values) (second t) noValue)
     (v .lie (first t)) (v .lie (second t)) (v .proper (first t)) (v .proper (second t)) b (low-inside (rowOf (t .opcode)) t b))
-    (λ r w l p. same-from ts (suc k) (rs ++ (r ∷ [])) (λ m h. d (suc m) (omega arith)) (record { values = c .values ++ (w ∷ []); covers = covers-more v r w l p }))
+    (λ r w l p. carries-from ts (rs ++ (r ∷ [])) (λ m h. d (suc m) (omega arith)) (record { values = c .values ++ (w ∷ []); covers = covers-more v r w l p }))
+  where
+    next : (x : Ranged) → stepOn t rs ≡ x → (o : Outcome) → Kept x o → ((r : Range) (v : Datum) → Lies r v → Proper r → Carries ts (rs ++ (r ∷ []))) → Carries (t ∷ ts) rs
+    next (ranged r) e o h more =
+        at-step t ts rs (ap carried e ∙ ap ranged (carried-proper r (h .proper)) ∙ sym e)
+        (λ q f. let z : r ≡ q = cc in rw z at (more r (h .value) (h .lies) (h .proper)))
+    next (range.refused number) e o h more = at-step t ts rs (ap carried e ∙ sym e) (λ q f. let z : _≡_ {A = ℕ} 0 1 = cc in absurd (omega arith))
+
+-- of steps that were read
+pub carries : (ls : List Step) → Declared ls → Carries ls []
+carries ls d = carries-from ls [] d (record { values = []; covers = covers-none })
+
+-- ---- the sheet
+
+same-from : (ls : List Step) (k : ℕ) (rs : List Range) → Carries ls rs → carriedFrom ls k rs ≡ sheetFrom ls k rs
+unfolding folded onCarried sheetFrom onRanged
+same-from [] k rs c = refl
+same-from (t ∷ ts) k rs (at-step _ _ _ e more) = rw e (next (stepOn t rs) refl (λ r f. same-from ts (suc k) (rs ++ (r ∷ [])) (more r f)))
+  where
+    next : (x : Ranged) → stepOn t rs ≡ x
+        → ((r : Range) → stepOn t rs ≡ ranged r → carriedFrom ts (suc k) (rs ++ (r ∷ [])) ≡ sheetFrom ts (suc k) (rs ++ (r ∷ [])))
+        → onCarried x (stopped k t rs) (λ r. carriedFrom ts (suc k) (rs ++ (r ∷ []))) ≡ onRanged x k (λ r. sheetFrom ts (suc k) (rs ++ (r ∷ [])))
+    next (ranged r) f more = more r f
+    next (range.refused number) f more = refl
 
 pub carried-same : (ls : List Step) → Declared ls → carriedFrom ls 0 [] ≡ sheetFrom ls 0 []
-carried-same ls d = same-from ls 0 [] d (record { values = []; covers = covers-none })
+carried-same ls d = same-from ls 0 [] (carries ls d)
