@@ -4,4 +4,6 @@ pub mod Frame
 pub mod Run
 pub mod Range
 pub mod Sheet
+pub mod Cause
+pub mod Explain
 pub mod Promise

@@ -23,3 +23,14 @@ pub struct SheetAnswer {
     pub place: u64,
     pub steps: u64,
 }
+
+// What the explain call answers: a refusal's number and place, where the text itself is refused; or the step that the sheet turns down, its
+// operand's step and the reason's code. What is not used is 0, and all of a recipe whose sheet passes.
+#[repr(C)]
+pub struct ExplainAnswer {
+    pub refusal: u64,
+    pub place: u64,
+    pub step: u64,
+    pub operand: u64,
+    pub reason: u64,
+}
