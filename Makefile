@@ -1,5 +1,5 @@
-# Estrenwind: proved rounding of IEEE 754 numbers, delivered as build/libestrenwind.a, build/estrenwind.h and the programs build/sheet
-# and build/run.
+# Estrenwind: proved rounding of IEEE 754 numbers, delivered as build/libestrenwind.a, build/estrenwind.h and the programs build/sheet,
+# build/run and build/explain.
 
 VERSION = 0.1.0
 PREFIX = /usr/local
@@ -14,7 +14,7 @@ CARGO_BINDINGS = --offline --manifest-path bindings/rust/Cargo.toml
 
 LIBRARY = build/libestrenwind.a
 HEADER = build/estrenwind.h
-PROGRAMS = build/sheet build/run
+PROGRAMS = build/sheet build/run build/explain
 export ESTRENWIND_LIB_DIR = $(CURDIR)/build
 SOURCES = crates.txt $(shell find crates -name '*.rt' -o -name '*.antt')
 
@@ -39,12 +39,12 @@ $(LIBRARY): $(SOURCES)
 	@mkdir -p build
 	objcopy --set-section-alignment '.text.*=64' target/staticlib/libc_library.a $@
 
-# Both programs by one check, which proves what they share once.
+# The programs by one check, which proves what they share once.
 $(PROGRAMS) &: $(SOURCES)
 	@$(call need,rt,prove and compile the programs (the Rattle toolchain))
-	rt check sheet run
+	rt check sheet run explain
 	@mkdir -p build
-	cp target/bin/sheet target/bin/run build/
+	cp target/bin/sheet target/bin/run target/bin/explain build/
 
 $(HEADER): include/estrenwind.h
 	@mkdir -p build
@@ -52,16 +52,17 @@ $(HEADER): include/estrenwind.h
 
 EXAMPLE = texture_index
 
-demo: build  ## an example recipe through both programs, with names and decimal numbers (EXAMPLE=index_clamp for another)
+demo: build  ## an example recipe through the programs, with names and decimal numbers (EXAMPLE=turned_down for another)
 	@$(call need,$(CC),compile the example)
 	@mkdir -p build/demo
 	$(CC) -std=c99 $(CFLAGS) $(WARNINGS) -Ibuild examples/readable.c -o build/readable
 	build/sheet <examples/$(EXAMPLE)/recipe >build/demo/sheet
+	build/explain <examples/$(EXAMPLE)/recipe >build/demo/explanation
 	(cat examples/$(EXAMPLE)/recipe; echo; cat examples/$(EXAMPLE)/frames) | build/run >build/demo/answers
 	@echo
 	@sed -n '1s/^# //p' examples/$(EXAMPLE)/README.md
 	@echo
-	@build/readable examples/$(EXAMPLE)/recipe build/demo/sheet examples/$(EXAMPLE)/frames build/demo/answers
+	@build/readable examples/$(EXAMPLE)/recipe build/demo/sheet build/demo/explanation examples/$(EXAMPLE)/frames build/demo/answers
 	@echo
 	@echo "examples/$(EXAMPLE)/README.md says what each line is for."
 
@@ -79,9 +80,10 @@ install: build  ## install programs, library, header, pkg-config file and manual
 	install -m 644 $(LIBRARY) $(DESTINATION)/lib
 	install -m 644 build/estrenwind.pc $(DESTINATION)/lib/pkgconfig
 	install -m 644 $(HEADER) $(DESTINATION)/include
-	install -m 644 man/sheet.1 man/run.1 $(DESTINATION)/share/man/man1
+	install -m 644 man/sheet.1 man/run.1 man/explain.1 $(DESTINATION)/share/man/man1
 
-INSTALLED = bin/sheet bin/run lib/libestrenwind.a lib/pkgconfig/estrenwind.pc include/estrenwind.h share/man/man1/sheet.1 share/man/man1/run.1
+INSTALLED = bin/sheet bin/run bin/explain lib/libestrenwind.a lib/pkgconfig/estrenwind.pc include/estrenwind.h \
+	share/man/man1/sheet.1 share/man/man1/run.1 share/man/man1/explain.1
 
 uninstall:  ## remove what install put under PREFIX
 	rm -f $(addprefix $(DESTINATION)/,$(INSTALLED))

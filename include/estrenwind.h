@@ -409,7 +409,7 @@ static inline float ew_fmaxf(float x, float y) { return ew_value_f32(ew_fmax_f32
 /* ---- Recipes ---- */
 
 /*
- * What holds of both ew_sheet and ew_run:
+ * What holds of ew_sheet, ew_explain and ew_run:
  *
  *     Threads    They keep no state. Any number of threads may call them at once, on the same text and frame too, each with
  *                lent memory of its own.
@@ -417,8 +417,8 @@ static inline float ew_fmaxf(float x, float y) { return ew_value_f32(ew_fmax_f32
  *                may be NULL.
  *     Overlap    The lent memory (sheet, words) must not overlap the text or the frame. Text and frame may overlap.
  *     Alignment  words is aligned as uint64_t is. Text, frame and sheet may start anywhere.
- *     Stack      On the longest recipe ew_run uses 6 KiB and ew_sheet 7 KiB. 12 KiB are enough for either, with what the
- *                dynamic linker takes of it to bind memcpy at its first call.
+ *     Stack      On the longest recipe ew_run uses 6 KiB, ew_sheet and ew_explain 7 KiB. 12 KiB are enough for each, with what
+ *                the dynamic linker takes of it to bind memcpy at its first call.
  */
 
 /* The kind of a step's value. */
@@ -442,6 +442,40 @@ typedef struct { uint64_t refusal, place, steps; } ew_sheet_answer;
  * ew_run might refuse: the first in that order, and no byte is written.
  */
 ew_sheet_answer ew_sheet(const uint8_t *text, size_t text_len, uint8_t *sheet, size_t sheet_len);
+
+/* Why a sheet is refused with 20, 21 or 22: a fact about the range of an operand, or about an end of the answer. */
+enum {
+    EW_REASON_NONE = 0,
+    EW_REASON_DIVISOR_HOLDS_ZERO = 1,     /* 20: fmod's B may be zero */
+    EW_REASON_DIVIDEND_LOW_INFINITE = 2,  /* 20: fmod's A has an infinite low end */
+    EW_REASON_DIVIDEND_HIGH_INFINITE = 3, /* 20: or high end */
+    EW_REASON_LROUND_LOW = 4,             /* 21: lround of A's low end does not fit 64 bits */
+    EW_REASON_LROUND_HIGH = 5,            /* 21: or of its high end */
+    EW_REASON_WHOLE_LOW = 6,              /* 21: the low end of a sum or difference does not fit 64 bits */
+    EW_REASON_WHOLE_HIGH = 7,             /* 21: or its high end */
+    EW_REASON_LDEXP_LOW_INFINITE = 8,     /* 21: ldexp's A has an infinite low end */
+    EW_REASON_LDEXP_HIGH_INFINITE = 9,    /* 21: or high end */
+    EW_REASON_LDEXP_LOW_OVERFLOWS = 10,   /* 21: the low end of what ldexp gives overflows */
+    EW_REASON_LDEXP_HIGH_OVERFLOWS = 11,  /* 21: or its high end */
+    EW_REASON_TOO_BIG_LOW = 12,           /* 22: A's low end, to be made a double, is over 2^53 in magnitude */
+    EW_REASON_TOO_BIG_HIGH = 13           /* 22: or its high end */
+};
+
+/*
+ * Why a recipe's sheet is refused: refusal and place are those of its text (10 to 17); or step is the one that ew_sheet refuses with 20 to 22,
+ * operand the step of its operand that the reason is about, and reason one of those above. What is not used is 0, and all five are
+ * where the sheet passes.
+ */
+typedef struct { uint64_t refusal, place, step, operand, reason; } ew_explain_answer;
+
+/*
+ * ew_explain says why ew_sheet, given room, refuses a recipe with 20 to 22. The reason's fact is true of the ranges that the sheet's rules give
+ * to the steps before, and no reason before it in the list above is true of that step. The operand is A; for
+ * EW_REASON_DIVISOR_HOLDS_ZERO it is B.
+ *
+ * Refuses 10 to 17 for the text, as ew_sheet does. It is lent no memory.
+ */
+ew_explain_answer ew_explain(const uint8_t *text, size_t text_len);
 
 /* What a run answers: a refusal's number and place, or the last step's kind and the 64 bits of its value. What is not used is 0. */
 typedef struct { uint64_t refusal, place, kind, word; } ew_run_answer;

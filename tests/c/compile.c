@@ -535,6 +535,28 @@ static void check_sheet(void)
     check("sheet leaves the rest", 1, sheet[room], '#');
 }
 
+/* The remainder of an input by another whose range holds zero; the recipe above, whose sheet passes; and half a line. */
+static void check_explain(void)
+{
+    static const char refused[] = "010000bff00000000000003ff0000000000000\n"
+                                  "01000000000000000000003ff0000000000000\n"
+                                  "22000100000000000000000000000000000000\n";
+    ew_explain_answer e = ew_explain((const uint8_t *)refused, sizeof refused - 1);
+    check("explain refusal", 0, e.refusal, EW_ACCEPTED);
+    check("explain place", 0, e.place, 0);
+    check("explain step", 0, e.step, 2);
+    check("explain operand", 0, e.operand, 1);
+    check("explain reason", 0, e.reason, EW_REASON_DIVISOR_HOLDS_ZERO);
+    e = ew_explain((const uint8_t *)recipe, sizeof recipe - 1);
+    check("explain refusal", 1, e.refusal, EW_ACCEPTED);
+    check("explain step", 1, e.step, 0);
+    check("explain operand", 1, e.operand, 0);
+    check("explain reason", 1, e.reason, EW_REASON_NONE);
+    e = ew_explain((const uint8_t *)recipe, EW_RECIPE_LINE / 2);
+    check("explain refusal", 2, e.refusal, EW_REFUSED_LENGTH);
+    check("explain reason", 2, e.reason, EW_REASON_NONE);
+}
+
 /* An array of length 0 may be NULL, each of them alone and all at once. */
 static void check_nothing(void)
 {
@@ -552,6 +574,7 @@ static void check_nothing(void)
     check("sheet without a text", 0, ew_sheet(NULL, 0, sheet, sizeof sheet).refusal, EW_REFUSED_LENGTH);
     check("sheet without memory", 0, ew_sheet(constant, EW_RECIPE_LINE, NULL, 0).refusal, EW_REFUSED_ROOM);
     check("sheet writes nothing", 0, sheet[0], '#');
+    check("explanation of nothing", 0, ew_explain(NULL, 0).refusal, EW_REFUSED_LENGTH);
 }
 
 /* Text, frame and sheet at every address modulo 8. */
@@ -566,6 +589,7 @@ static void check_addresses(void)
         check("run at an address", i, ew_run(text + i, sizeof recipe - 1, frame + i, EW_FRAME_INPUT, words, 3).word, 0xffffffffffffffff);
         check("sheet at an address", i, ew_sheet(text + i, sizeof recipe - 1, sheet + i, sizeof lines - 1).steps, 3);
         check("sheet at an address", i, memcmp(sheet + i, lines, sizeof lines - 1) == 0, 1);
+        check("explanation at an address", i, ew_explain(text + i, sizeof recipe - 1).reason, EW_REASON_NONE);
     }
 }
 
@@ -603,6 +627,7 @@ int main(void)
         check_all();
         check_run();
         check_sheet();
+    check_explain();
         check_nothing();
         check_addresses();
     }

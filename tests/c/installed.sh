@@ -4,11 +4,13 @@
 set -eu
 folder=$1
 strange="$folder in a stranger's place"
-files="bin/run
+files="bin/explain
+bin/run
 bin/sheet
 include/estrenwind.h
 lib/libestrenwind.a
 lib/pkgconfig/estrenwind.pc
+share/man/man1/explain.1
 share/man/man1/run.1
 share/man/man1/sheet.1"
 version=$(sed -n 's/^VERSION = //p' Makefile)
@@ -45,6 +47,7 @@ used() { # used FOLDER: installs there, uses what is installed, and removes it
     # The programs, on document 01's example.
     [ "$(echo "$recipe" | "$1/bin/sheet" | tail -n 1)" = 0202fffffffffffffffd0000000000000007 ] || fail "$1: the installed sheet is wrong"
     [ "$(printf '%s\n\nbfe0000000000000\n' "$recipe" | "$1/bin/run")" = 02ffffffffffffffff ] || fail "$1: the installed run is wrong"
+    [ "$(echo "$recipe" | "$1/bin/explain")" = 00 ] || fail "$1: the installed explain is wrong"
 
     if command -v pkg-config >/dev/null; then
         export PKG_CONFIG_PATH="$1/lib/pkgconfig"
@@ -80,4 +83,4 @@ staged "$strange.staged" "/opt/a place's & name"
 used "$folder"
 used "$strange"
 rm -rf "$folder.cargo"
-echo "installed, used and removed again: 7 files, under a plain name and under one with spaces"
+echo "installed, used and removed again: 9 files, under a plain name and under one with spaces"

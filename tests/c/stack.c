@@ -1,5 +1,5 @@
 /*
- * Measures the deepest stack of ew_run and ew_sheet: each call runs on a stack of its own that was filled with a pattern, on a recipe of
+ * Measures the deepest stack of ew_run, ew_sheet and ew_explain: each call runs on a stack of its own that was filled with a pattern, on a recipe of
  * EW_MOST_STEPS steps with EW_MOST_INPUTS inputs and every opcode, and what no longer holds the pattern was used. Fails above what the
  * header says is enough.
  */
@@ -17,6 +17,7 @@ static uint64_t words[EW_MOST_STEPS];
 static uint8_t sheet[EW_MOST_SHEET];
 static ew_run_answer answer;
 static ew_sheet_answer shown;
+static ew_explain_answer explained;
 static unsigned char *top; /* where a caller's stack ends and the call's begins */
 
 /* Fifteen double inputs and a whole one, two constants, then every other opcode in turn. */
@@ -59,6 +60,13 @@ static void *show(void *unused)
     return unused;
 }
 
+static void *explain(void *unused)
+{
+    top = __builtin_frame_address(0);
+    explained = ew_explain((const uint8_t *)text, EW_MOST_TEXT);
+    return unused;
+}
+
 /* The bytes of a painted stack that a call used. */
 static long used_by(void *(*body)(void *))
 {
@@ -84,20 +92,31 @@ static long used_by(void *(*body)(void *))
 
 int main(void)
 {
-    long bytes, sheet_bytes;
+    long bytes, sheet_bytes, explain_bytes, last_bytes;
     write_recipe();
     /* Once before they count: at its first call the dynamic linker binds memcpy, and takes some 3 KiB of the caller's stack for that. */
     run(NULL);
     show(NULL);
-    if (answer.refusal != EW_ACCEPTED || shown.refusal != EW_ACCEPTED) {
+    explain(NULL);
+    if (answer.refusal != EW_ACCEPTED || shown.refusal != EW_ACCEPTED || explained.reason != EW_REASON_NONE) {
         printf("the recipe was refused: %llu at %llu by the run, %llu at %llu by the sheet\n", (unsigned long long)answer.refusal,
                (unsigned long long)answer.place, (unsigned long long)shown.refusal, (unsigned long long)shown.place);
         return 1;
     }
     bytes = used_by(run);
     sheet_bytes = used_by(show);
-    printf("on %d steps ew_run used %ld bytes of stack and ew_sheet %ld\n", EW_MOST_STEPS, bytes, sheet_bytes);
-    if (bytes > LIMIT || sheet_bytes > LIMIT) {
+    explain_bytes = used_by(explain);
+    /* And where a reason is told of the last step: the remainder of an input by itself, whose range holds zero. */
+    sprintf(text + (EW_MOST_STEPS - 1) * EW_RECIPE_LINE, "220000%032x\n", 0u);
+    last_bytes = used_by(explain);
+    if (explained.reason != EW_REASON_DIVISOR_HOLDS_ZERO || explained.step != EW_MOST_STEPS - 1) {
+        printf("the last step was not explained\n");
+        return 1;
+    }
+    if (last_bytes > explain_bytes)
+        explain_bytes = last_bytes;
+    printf("on %d steps ew_run used %ld bytes of stack, ew_sheet %ld and ew_explain %ld\n", EW_MOST_STEPS, bytes, sheet_bytes, explain_bytes);
+    if (bytes > LIMIT || sheet_bytes > LIMIT || explain_bytes > LIMIT) {
         printf("more than %d\n", LIMIT);
         return 1;
     }

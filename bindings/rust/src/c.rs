@@ -96,6 +96,18 @@ pub struct SheetAnswer {
     pub steps: u64,
 }
 
+/// A refusal's number and place; or the step that a sheet refuses, its operand's step and the reason's code. What is not used is 0.
+#[repr(C)]
+#[derive(Clone, Copy, Debug, PartialEq, Eq)]
+#[allow(missing_docs)]
+pub struct ExplainAnswer {
+    pub refusal: u64,
+    pub place: u64,
+    pub step: u64,
+    pub operand: u64,
+    pub reason: u64,
+}
+
 // SAFETY: these are the signatures of estrenwind.h. Functions of numbers alone are safe for all of them.
 #[allow(missing_docs)]
 unsafe extern "C" {
@@ -156,4 +168,7 @@ unsafe extern "C" {
         sheet: *mut u8,
         sheet_len: usize,
     ) -> SheetAnswer;
+
+    /// The pointer is good for as many bytes as the length after it says.
+    pub fn ew_explain(text: *const u8, text_len: usize) -> ExplainAnswer;
 }

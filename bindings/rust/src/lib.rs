@@ -21,8 +21,8 @@
 //! assert_eq!((overflow.reason, overflow.value), (Reason::OutOfRange, f64::NEG_INFINITY));
 //! ```
 //!
-//! Every enum may grow, so a `match` on one needs an arm for the rest. A refusal's number is never lost: [`Reason::Other`] and
-//! [`Fault::Other`] hold one that this version has no name for.
+//! Every enum may grow, so a `match` on one needs an arm for the rest. A number of the library is never lost: [`Reason::Other`],
+//! [`Fault::Other`] and [`Cause::Other`] hold one that this version has no name for.
 //!
 //! "Quieted" below means the same pattern with the top fraction bit set. Patterns that must pass untouched on every host, a signalling
 //! NaN's above all, are better kept as integers: the module [`c`] has the functions on them.
@@ -31,9 +31,11 @@
 //! else from where `pkg-config` finds it. It is for x86-64.
 
 pub mod c;
+mod explanation;
 pub mod half;
 mod number;
 mod recipe;
 
+pub use explanation::*;
 pub use number::*;
 pub use recipe::*;

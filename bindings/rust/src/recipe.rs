@@ -177,7 +177,7 @@ pub struct TurnedDown {
 }
 
 impl TurnedDown {
-    fn of(refusal: u64, place: u64) -> TurnedDown {
+    pub(crate) fn of(refusal: u64, place: u64) -> TurnedDown {
         TurnedDown {
             fault: Fault::from(refusal),
             place: place as usize,

@@ -1,7 +1,8 @@
-//! Sheets and runs through the crate: the examples of the repository, and the lent memory.
+//! Sheets, explanations and runs through the crate: the examples of the repository, and the lent memory.
 
 use estrenwind::{
-    run, sheet, Fault, Reason, TurnedDown, Value, MOST_SHEET, MOST_STEPS, SHEET_LINE,
+    explain, run, sheet, Explanation, Fault, Reason, TurnedDown, Value, MOST_SHEET, MOST_STEPS,
+    SHEET_LINE,
 };
 use std::fs;
 use std::path::Path;
@@ -36,6 +37,18 @@ fn the_examples() {
             Err(refused) => format!("{}\n", refusal_line(refused)),
         };
         assert_eq!(shown, read("sheet"));
+        let why = match explain(recipe.as_bytes()) {
+            Ok(Explanation::Refused {
+                cause,
+                step,
+                operand,
+            }) => format!("{step:02x}{operand:02x}{:02x}\n", cause.code()),
+            other => {
+                assert_eq!(other, Ok(Explanation::Passes));
+                "00\n".to_owned()
+            }
+        };
+        assert_eq!(why, read("explanation"));
         for (frame, expected) in read("frames").lines().zip(read("answers").lines()) {
             let answer = match run(recipe.as_bytes(), frame.as_bytes(), &mut [0; MOST_STEPS]) {
                 Ok(Value::Double(x)) => format!("01{:016x}", x.to_bits()),
@@ -46,7 +59,7 @@ fn the_examples() {
             assert_eq!(answer, expected);
         }
     }
-    assert_eq!(found, 4);
+    assert_eq!(found, 7);
 }
 
 #[test]
@@ -152,5 +165,5 @@ fn every_public_enum_may_grow() {
             }
         }
     }
-    assert_eq!(found, 4);
+    assert_eq!(found, 6);
 }

@@ -6,6 +6,7 @@ use float_format::Word32;
 use float_format::Word64;
 use scaling::Frexp32;
 use scaling::Frexp64;
+use semantics::ExplainAnswer;
 use semantics::RunAnswer;
 use semantics::SheetAnswer;
 use splitting::Patterns32;
@@ -26,6 +27,8 @@ ghost use Rattle.recipe.specs.Text.{short, steps, readText};
 ghost use Rattle.semantics.specs.Run.{runOf, answerOf, wordsOf};
 ghost use Rattle.semantics.specs.Sheet.{sheetOf, bytesOf};
 ghost use Rattle.semantics.specs.Sheet as sheet;
+ghost use Rattle.semantics.specs.Explain.{explainOf};
+ghost use Rattle.semantics.specs.Explain as explain;
 ghost use Rattle.semantics.specs.Promise.{Keeps};
 
 // A whole number, and the number of the refusal, 0 where there is none.
@@ -322,6 +325,13 @@ pub extern "C" fn ew_sheet(text: &[u8], bytes: &mut [u8]) -> SheetAnswer
         × (now (bytes .exit) ≡ bytesOf (sheetOf (now (text .entry)) (length (now (bytes .entry)))) (now (bytes .entry))) ⌝ }
 {
     sheets::sheet(text, bytes)
+}
+
+#[no_mangle]
+pub extern "C" fn ew_explain(text: &[u8]) -> ExplainAnswer
+    ensures { λ r. ⌜ r ≡ explain.answerOf (explainOf (now (text .entry))) ⌝ }
+{
+    explaining::explain(text)
 }
 
 // The second part of the contract is demand 3: what a passed sheet promises of this run.

@@ -6,6 +6,7 @@ pub mod FrameLines
 pub mod Parts
 pub mod Laws
 pub mod Sheets
+pub mod Explanations
 pub mod Words
 pub mod Stages
 pub mod Chunks

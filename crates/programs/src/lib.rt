@@ -1,4 +1,4 @@
-// What the two programs write, and how far the run program is in its input (document 01, "Sheet and run on paper"). Types and numbers alone:
+// What the programs write, and how far the run program is in its input (document 01, "Sheet and run on paper"). Types and numbers alone:
 // `specs/` has the definitions, `proofs/` what holds of them, and the functions stand in `stream`.
 use recipe::LONGEST_TEXT;
 

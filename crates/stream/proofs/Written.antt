@@ -1,5 +1,5 @@
 -- The lines of output, as the code writes them: field by field into a longer buffer. Assumes nothing.
-use mathlib.Core.Path.{_≡_, ap, _∙_}
+use mathlib.Core.Path.{_≡_, refl, ap, _∙_}
 use mathlib.Core.List.{List, [], _∷_, _++_, append-assoc}
 use Prim.Native.Nat.{ℕ, _+_, _≤_}
 use native.Mathlib.Omega.{arith}
@@ -11,23 +11,24 @@ use Rattle.hex.proofs.Digits.{length-digits}
 use Rattle.hex.proofs.Parts.{put, set-next, put-next, length-put}
 use Rattle.semantics.specs.declared.RunAnswer.{RunAnswer}
 use Rattle.programs.specs.Output.{refusalLine, answerLine}
+use Rattle.programs.specs.Explain.{fieldsLine, passedLine}
 use Rattle.programs.specs.Stage.{Untouched}
 use Rattle.programs.proofs.Untouched.{untouched-join, untouched-set, untouched-front, untouched-put}
 
--- ---- a refusal line
+-- ---- a line of three fields
 
 module _ (xs a b d : List ℕ) (h : 19 ≤ length xs) (p : length a ≡ 2) (q : length b ≡ 2) (r : length d ≡ 2) where
-  refusal-length : length (put 4 2 (put 2 2 (a ++ drop 2 xs) b) d) ≡ length xs
-  refusal-length =
+  fields-length : length (put 4 2 (put 2 2 (a ++ drop 2 xs) b) d) ≡ length xs
+  fields-length =
       let n1 : length (a ++ drop 2 xs) ≡ length xs = length-append a (drop 2 xs) ∙ simp length-drop (omega arith) in
       let n2 : length (put 2 2 (a ++ drop 2 xs) b) ≡ length xs = length-put (a ++ drop 2 xs) b 2 2 (omega arith) q ∙ n1 in
       length-put (put 2 2 (a ++ drop 2 xs) b) d 4 2 (omega arith) r ∙ n2
 
-  pub refusal-same : length (set (put 4 2 (put 2 2 (a ++ drop 2 xs) b) d) 6 10) ≡ length xs
-  refusal-same = simp length-set refusal-length
+  pub fields-same : length (set (put 4 2 (put 2 2 (a ++ drop 2 xs) b) d) 6 10) ≡ length xs
+  fields-same = simp length-set fields-length
 
-  pub refusal-rest : Untouched 7 xs (set (put 4 2 (put 2 2 (a ++ drop 2 xs) b) d) 6 10)
-  refusal-rest =
+  pub fields-rest : Untouched 7 xs (set (put 4 2 (put 2 2 (a ++ drop 2 xs) b) d) 6 10)
+  fields-rest =
       let l1 = a ++ drop 2 xs in
       let l2 = put 2 2 l1 b in
       let l3 = put 4 2 l2 d in
@@ -37,26 +38,44 @@ module _ (xs a b d : List ℕ) (h : 19 ≤ length xs) (p : length a ≡ 2) (q : 
       let u3 : Untouched 6 xs l3 = untouched-join xs l2 l3 4 6 6 (omega arith) (omega arith) u2 (untouched-put l2 d 4 2 (omega arith) r) in
       untouched-join xs l3 (set l3 6 10) 6 7 7 (omega arith) (omega arith) u3 (untouched-set l3 6 10 7 (omega arith))
 
-  refusal-fields : take 7 (set (put 4 2 (put 2 2 (a ++ drop 2 xs) b) d) 6 10) ≡ a ++ (b ++ (d ++ (10 ∷ [])))
-  refusal-fields =
+  fields-are : take 7 (set (put 4 2 (put 2 2 (a ++ drop 2 xs) b) d) 6 10) ≡ a ++ (b ++ (d ++ (10 ∷ [])))
+  fields-are =
       let l1 = a ++ drop 2 xs in
       let l2 = put 2 2 l1 b in
       let l3 = put 4 2 l2 d in
       let n1 : length l1 ≡ length xs = length-append a (drop 2 xs) ∙ simp length-drop (omega arith) in
       let n2 : length l2 ≡ length xs = length-put l1 b 2 2 (omega arith) q ∙ n1 in
-      let n3 : length l3 ≡ length xs = refusal-length in
+      let n3 : length l3 ≡ length xs = fields-length in
       let t1 : take 2 l1 ≡ a = take-at a (drop 2 xs) 2 p in
       let t2 : take 4 l2 ≡ a ++ b = put-next l1 a b 2 2 (omega arith) q t1 in
       let t3 : take 6 l3 ≡ (a ++ b) ++ d = put-next l2 (a ++ b) d 4 2 (omega arith) r t2 in
       set-next l3 ((a ++ b) ++ d) 6 10 (omega arith) t3 ∙ simp append-assoc
 
-pub refusal-written : (number place : ℕ) (xs a b d : List ℕ) → 19 ≤ length xs
-    → a ≡ digits 2 0xff → b ≡ digits 2 number → d ≡ digits 2 place
-    → take 7 (set (put 4 2 (put 2 2 (a ++ drop 2 xs) b) d) 6 10) ≡ refusalLine number place
-unfolding refusalLine
-refusal-written number place xs a b d h p q r =
-    refusal-fields xs a b d h (ap length p ∙ length-digits 2 0xff) (ap length q ∙ length-digits 2 number) (ap length r ∙ length-digits 2 place)
-    ∙ rw (p, q, r)
+pub fields-written : (x y z : ℕ) (xs a b d : List ℕ) → 19 ≤ length xs → a ≡ digits 2 x → b ≡ digits 2 y → d ≡ digits 2 z
+    → take 7 (set (put 4 2 (put 2 2 (a ++ drop 2 xs) b) d) 6 10) ≡ fieldsLine x y z
+unfolding fieldsLine
+fields-written x y z xs a b d h p q r =
+    fields-are xs a b d h (ap length p ∙ length-digits 2 x) (ap length q ∙ length-digits 2 y) (ap length r ∙ length-digits 2 z) ∙ rw (p, q, r)
+
+-- a refusal's
+pub refusal-is : (number place : ℕ) → fieldsLine 0xff number place ≡ refusalLine number place
+unfolding fieldsLine refusalLine
+refusal-is number place = refl
+
+-- ---- 00
+
+module _ (xs a : List ℕ) (h : 19 ≤ length xs) (p : length a ≡ 2) where
+  pub passed-same : length (set (a ++ drop 2 xs) 2 10) ≡ length xs
+  passed-same = simp length-set (length-append a (drop 2 xs) ∙ simp length-drop (omega arith))
+
+  pub passed-rest : Untouched 3 xs (set (a ++ drop 2 xs) 2 10)
+  passed-rest = untouched-join xs (a ++ drop 2 xs) (set (a ++ drop 2 xs) 2 10) 2 3 3 (omega arith) (omega arith) (untouched-front xs a 2 p) (untouched-set (a ++ drop 2 xs) 2 10 3 (omega arith))
+
+  pub passed-written : a ≡ digits 2 0 → take 3 (set (a ++ drop 2 xs) 2 10) ≡ passedLine
+  unfolding passedLine
+  passed-written e =
+      let n : length (a ++ drop 2 xs) ≡ length xs = length-append a (drop 2 xs) ∙ simp length-drop (omega arith) in
+      set-next (a ++ drop 2 xs) a 2 10 (omega arith) (take-at a (drop 2 xs) 2 p) ∙ ap (λ (x : List ℕ). x ++ (10 ∷ [])) e
 
 -- ---- the answer to a frame
 

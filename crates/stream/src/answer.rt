@@ -6,6 +6,7 @@ ghost use lib.ListN.{length, take};
 ghost use Rattle.recipe.specs.declared.Step.{Step};
 ghost use Rattle.recipe.specs.Answer.{Holds};
 ghost use Rattle.programs.specs.Output.{refusalLine, answerLine, frameLine};
+ghost use Rattle.programs.specs.Explain.{fieldsLine};
 ghost use Rattle.programs.specs.Stage.{Untouched, Put};
 use recipe::MOST_STEPS;
 use running::run_recipe;
@@ -14,16 +15,24 @@ use semantics::RunAnswer;
 // The bytes of the longest line, with its line feed.
 pub(crate) const LINE: usize = 19;
 
-// Writes a refusal line at the start of out, and answers its length.
+// Writes a line of three fields, 2 digits each, at the start of out, and answers its length.
+pub(crate) fn fields_line(x: u64, y: u64, z: u64, out: &mut [u8]) -> usize
+    requires { ⌜ 19 ≤ length (now out) ⌝ }
+    ensures { λ r. ⌜ Put (fieldsLine x y z) r (now (out .entry)) (now (out .exit)) ⌝ }
+{
+    hex::write(x, &mut out[..2]);
+    hex::write(y, &mut out[2..4]);
+    hex::write(z, &mut out[4..6]);
+    out[6] = b'\n';
+    7
+}
+
+// The same of a refusal.
 pub(crate) fn refusal_line(number: u64, place: u64, out: &mut [u8]) -> usize
     requires { ⌜ 19 ≤ length (now out) ⌝ }
     ensures { λ r. ⌜ Put (refusalLine number place) r (now (out .entry)) (now (out .exit)) ⌝ }
 {
-    hex::write(0xff, &mut out[..2]);
-    hex::write(number, &mut out[2..4]);
-    hex::write(place, &mut out[4..6]);
-    out[6] = b'\n';
-    7
+    fields_line(0xff, number, place, out)
 }
 
 // The same of a run's answer: kind and word, or a refusal line.

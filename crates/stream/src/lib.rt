@@ -21,10 +21,12 @@ use programs::Stage;
 use programs::State;
 
 mod answer;
+mod explain;
 mod frames;
 mod head;
 mod sheet;
 
+pub use explain::write_explanation;
 pub use sheet::write_sheet;
 
 // What feeding came to: the state after it, the place in the chunk up to which it is used, and the bytes put out.

@@ -1,0 +1,3 @@
+-- The laws of `explaining`.
+pub mod Reasons
+pub mod Calls
