@@ -1,14 +1,15 @@
 /*
  * The same answers on every processor: a million patterns through every function at both widths, every half through those that take
- * one, and recipes through ew_run, to be run on processors that differ (tests/c/processors.sh) and compared. Linked
+ * one, and recipes through ew_run, ew_sheet and ew_explain, to be run on processors that differ (tests/c/processors.sh) and compared. Linked
  * statically, so that an emulator needs nothing else.
  *
- *     processors cpu                      what the processor says of itself
- *     processors functions                a checksum a function and width (64, 32, 16; 0 where there is none), and one over all of them
- *     processors libm                     a checksum for each of the C library's functions, on the same patterns
- *     processors values NAME              all answers of one of the C library's functions, 8 bytes each
- *     processors runs FILE FIRST STRIDE   the answers to calls of a file, a line each: of buckets FIRST, FIRST + STRIDE, ..
- *     processors sheets FILE FIRST STRIDE the same of sheets
+ *     processors cpu                             what the processor says of itself
+ *     processors functions                       a checksum a function and width (64, 32, 16; 0 where there is none), and one over all of them
+ *     processors libm                            a checksum for each of the C library's functions, on the same patterns
+ *     processors values NAME                     all answers of one of the C library's functions, 8 bytes each
+ *     processors runs FILE FIRST STRIDE          the answers to calls of a file, a line each: of buckets FIRST, FIRST + STRIDE, ..
+ *     processors sheets FILE FIRST STRIDE        the same of sheets
+ *     processors explanations FILE FIRST STRIDE  and of explanations
  *
  * A bucket is 64 calls. A file's call is two 32-bit lengths, a text and a frame of these lengths.
  */
@@ -302,6 +303,13 @@ static void print_sheet(unsigned long number, const uint32_t lengths[2])
            (unsigned long long)hash);
 }
 
+static void print_explanation(unsigned long number, const uint32_t lengths[2])
+{
+    const ew_explain_answer r = ew_explain(text, lengths[0]);
+    printf("%08lu %llu %llu %llu %llu %llu\n", number, (unsigned long long)r.refusal, (unsigned long long)r.place, (unsigned long long)r.step,
+           (unsigned long long)r.operand, (unsigned long long)r.reason);
+}
+
 static int calls(const char *name, unsigned long first, unsigned long stride, void (*print)(unsigned long, const uint32_t *))
 {
     FILE *file = fopen(name, "rb");
@@ -353,6 +361,8 @@ int main(int count, char **words)
         return calls(words[2], strtoul(words[3], NULL, 10), strtoul(words[4], NULL, 10), print_run);
     else if (count == 5 && strcmp(words[1], "sheets") == 0)
         return calls(words[2], strtoul(words[3], NULL, 10), strtoul(words[4], NULL, 10), print_sheet);
+    else if (count == 5 && strcmp(words[1], "explanations") == 0)
+        return calls(words[2], strtoul(words[3], NULL, 10), strtoul(words[4], NULL, 10), print_explanation);
     else
         return 2;
     return 0;

@@ -1,7 +1,7 @@
 #!/bin/sh
 # One answer on every processor. Runs tests/c/processors.c on this one and on two that the emulator plays, an old one without SSE4.1
-# and AVX2 and a new one with both, and compares; then the programs sheet and run; then shows how the C library's functions fare.
-# processors.sh BUILD: the folder with the program processors, the programs sheet and run, and the files processors.d/calls and
+# and AVX2 and a new one with both, and compares; then the programs; then shows how the C library's functions fare.
+# processors.sh BUILD: the folder with the program processors, the programs sheet, explain and run, and the files processors.d/calls and
 # processors.d/input (recipe_cases of the Rust tests).
 set -eu
 build=$1
@@ -42,7 +42,7 @@ same functions "$work/functions.here" "$work/functions.old" "$work/functions.new
 echo "functions: 16 at two widths and export to halves, a million patterns each, 6 of every half: checksum $(sed -n 's/^all //p' "$work/functions.here"), here and on both"
 
 # Buckets of calls by turns on the one and the other, joined again in their order.
-for kind in runs sheets; do
+for kind in runs sheets explanations; do
     on here "$build/processors" $kind "$work/calls" 0 1 >"$work/$kind.here"
     on old "$build/processors" $kind "$work/calls" 0 2 >"$work/$kind.old"
     on new "$build/processors" $kind "$work/calls" 1 2 >"$work/$kind.new"
@@ -50,8 +50,10 @@ for kind in runs sheets; do
     same $kind "$work/$kind.here" "$work/$kind.joined"
     echo "$kind: $(grep -c . "$work/$kind.here") calls, buckets by turns on the old and the new: one file of answers, $(cksum <"$work/$kind.here")"
 done
+[ "$(cut -d ' ' -f 6 "$work/explanations.here" | sort -u | wc -l)" -eq 14 ] || { echo "not every reason came up" >&2; exit 1; }
 
-# The program run: every other frame on the old one. The program sheet: each.
+# The program run: every other frame on the old one. The programs sheet and explain: each; explain on the recipe, and on one whose last step may
+# overflow.
 sed '/^$/q' "$work/input" >"$work/head"
 sed '/^$/d' "$work/head" >"$work/recipe"
 sed '1,/^$/d' "$work/input" >"$work/frames"
@@ -62,10 +64,14 @@ paste -d '\n' "$work/run.old" "$work/run.new" >"$work/run.joined"
 same "the program run" "$work/run.here" "$work/run.joined"
 for processor in here old new; do
     on $processor "$build/sheet" <"$work/recipe" >"$work/sheet.$processor"
+    on $processor "$build/explain" <"$work/recipe" >"$work/explain.$processor"
+    on $processor "$build/explain" <examples/ldexp_out_of_range/recipe >>"$work/explain.$processor"
 done
 same "the program sheet" "$work/sheet.here" "$work/sheet.old" "$work/sheet.new"
+same "the program explain" "$work/explain.here" "$work/explain.old" "$work/explain.new"
+[ "$(paste -s -d ' ' "$work/explain.here")" = "00 02000b" ] || { echo "the program explain does not explain" >&2; exit 1; }
 grep -qv '^ff' "$work/run.here" && grep -qv '^ff' "$work/sheet.here" || { echo "the programs refuse everything" >&2; exit 1; }
-echo "programs: $(grep -c . "$work/run.here") frames by turns through run, $(grep -c . "$work/sheet.here") lines of sheet: the same bytes"
+echo "programs: $(grep -c . "$work/run.here") frames by turns through run, $(grep -c . "$work/sheet.here") lines of sheet, and explain: the same bytes"
 
 # The C library's functions are not ours to pass or fail.
 for processor in old new; do

@@ -27,13 +27,17 @@ fi
 # shellcheck disable=SC2086
 ${CC:-gcc} -std=c99 ${CFLAGS:--O2} $sanitizers "-I$build" examples/readable.c -o "$work/readable"
 
-# show RECIPE SHEET FRAMES ANSWERS: puts what is printed in $work/shown. It must end well, say nothing else, and print what a terminal can show.
+# show RECIPE SHEET EXPLANATION FRAMES ANSWERS: puts what is printed in $work/shown. It must end well, say nothing else, and print what a terminal can show.
 count=0
 show() {
     "$work/readable" "$@" >"$work/shown" 2>"$work/errors" || fail "$*: $(cat "$work/errors")"
     [ ! -s "$work/errors" ] || fail "$*: $(cat "$work/errors")"
     [ "$(LC_ALL=C tr -d '\n -~' <"$work/shown" | wc -c)" -eq 0 ] || fail "$*: unprintable bytes come through"
     count=$((count + 1))
+}
+
+show_example() { # show_example FOLDER/
+    show "$1recipe" "$1sheet" "$1explanation" "$1frames" "$1answers"
 }
 
 has() {
@@ -43,35 +47,60 @@ has() {
 }
 
 for example in examples/*/; do
-    show "${example}recipe" "${example}sheet" "${example}frames" "${example}answers"
+    show_example "$example"
     cat "${example}recipe" "${example}frames" >"$work/lines"
     while read -r line; do has "$line"; done <"$work/lines"
-    [ "$example" = examples/turned_down/ ] || [ "$(grep -cF ' .. ' "$work/shown")" -eq "$(wc -l <"${example}sheet")" ] || fail "$example: ranges are missing"
+    case $(cat "${example}explanation") in
+    00) [ "$(grep -cF ' .. ' "$work/shown")" -eq "$(wc -l <"${example}sheet")" ] || fail "$example: ranges are missing" ;;
+    *) has "no sheet: $(cat "${example}sheet"), " "why: $(cat "${example}explanation"), " ;;
+    esac
+    ! grep -q "not this recipe's" "$work/shown" || fail "$example: is not taken for what it is"
 done
 
 # What README.md prints of it.
-show examples/texture_index/recipe examples/texture_index/sheet examples/texture_index/frames examples/texture_index/answers
+show_example examples/texture_index/
 sed -n '/^    step  line/,/^    \.\.\.$/s/^    //p' README.md | sed '$d' >"$work/lines"
 [ "$(wc -l <"$work/lines")" -gt 10 ] || fail "README.md does not show what it prints"
 while read -r line; do
     sed 's/^ *//' "$work/shown" | grep -qxF -e "$line" || fail "README.md has a line that is not printed: $line"
 done <"$work/lines"
 
-# A refused sheet: the declared ranges, the step and what it means.
-show examples/turned_down/recipe examples/turned_down/sheet examples/turned_down/frames examples/turned_down/answers
-has "-4096 .. 4096" " 0 .. 64" "fmod of step 0 by step 1  <- refused 20" "no sheet: ff1402, refused 20 at step 2, " ": fmod of an infinite number, or by zero"
+# A refused sheet: the declared ranges, the step, what it means, and why.
+show_example examples/turned_down/
+has "-4096 .. 4096" " 0 .. 64" "fmod of step 0 by step 1  <- refused 20" "no sheet: ff1402, refused 20 at step 2, " ": fmod of an infinite number, or by zero" \
+    "why: 020101, the range of step 1, the divisor, holds zero"
 for refusal in 0a 0b 0c 0d 0e 0f 10 11 14 15 16 1e 1f 20 28 00 63 ff; do
     for place in 00 02 ff; do
         echo "ff$refusal$place" >"$work/refused"
-        show examples/camera_wrap/recipe "$work/refused" examples/camera_wrap/frames "$work/refused"
+        show examples/camera_wrap/recipe "$work/refused" "$work/refused" examples/camera_wrap/frames "$work/refused"
         has "no sheet: ff$refusal$place, refused $((0x$refusal))" "-9007199254740992 .. 9007199254740992" "360 .. 360"
     done
 done
 echo ff0f01 >"$work/refused"
-show examples/camera_wrap/recipe "$work/refused" examples/camera_wrap/frames "$work/refused"
+show examples/camera_wrap/recipe "$work/refused" "$work/refused" examples/camera_wrap/frames "$work/refused"
 has "360 .. 360  <- refused 15" "no run: ff0f01, refused 15 at step 1: works on a step of the wrong kind"
 
-# Files that are no recipe, sheet, frames or answers, each in each place, and in all of them.
+# Every reason of docs/FORMATS.md in words that name the operand, and no others.
+for code in 01 02 03 04 05 06 07 08 09 0a 0b 0c 0d; do
+    echo "022b$code" >"$work/explanation"
+    show examples/turned_down/recipe examples/turned_down/sheet "$work/explanation" examples/turned_down/frames examples/turned_down/answers
+    has "why: 022b$code, "
+    grep "^why: " "$work/shown" | grep -qwF "step 43" || fail "reason $code does not name the operand"
+    grep "^why: " "$work/shown" | sed 's/^why: [0-9a-f]*//' >>"$work/reasons"
+done
+[ "$(sort -u "$work/reasons" | wc -l)" -eq 13 ] || fail "two reasons have the same words"
+for explanation in 00 020100 02010e 010101 0201010 02010 ff1402 FF1402 ""; do
+    echo "$explanation" >"$work/explanation"
+    show examples/turned_down/recipe examples/turned_down/sheet "$work/explanation" examples/turned_down/frames examples/turned_down/answers
+    has "not this recipe's explanation"
+done
+for explanation in 020101 000 0 ff1402 ""; do
+    echo "$explanation" >"$work/explanation"
+    show examples/camera_wrap/recipe examples/camera_wrap/sheet "$work/explanation" examples/camera_wrap/frames examples/camera_wrap/answers
+    has "not this recipe's explanation"
+done
+
+# Files that are no recipe, sheet, explanation, frames or answers, each in each place, and in all of them.
 repeat() { # repeat COUNT TEXT
     awk -v n="$1" -v text="$2" 'BEGIN { for (i = 0; i < n; i++) printf "%s", text }'
 }
@@ -92,11 +121,12 @@ head -c 100000 "$work/readable" >"$work/hostile/machine_code"
 cat examples/*/recipe examples/*/sheet examples/*/frames >"$work/hostile/mixed"
 for example in examples/texture_index examples/turned_down; do
     for hostile in "$work"/hostile/*; do
-        show "$hostile" $example/sheet $example/frames $example/answers
-        show $example/recipe "$hostile" $example/frames $example/answers
-        show $example/recipe $example/sheet "$hostile" $example/answers
-        show $example/recipe $example/sheet $example/frames "$hostile"
-        show "$hostile" "$hostile" "$hostile" "$hostile"
+        show "$hostile" $example/sheet $example/explanation $example/frames $example/answers
+        show $example/recipe "$hostile" $example/explanation $example/frames $example/answers
+        show $example/recipe $example/sheet "$hostile" $example/frames $example/answers
+        show $example/recipe $example/sheet $example/explanation "$hostile" $example/answers
+        show $example/recipe $example/sheet $example/explanation $example/frames "$hostile"
+        show "$hostile" "$hostile" "$hostile" "$hostile" "$hostile"
     done
 done
 
@@ -106,21 +136,18 @@ for inputs in 16 17 62 63 64 127 128 129; do
 " >"$work/recipe"
     { repeat "$inputs" ffefffffffffffff && echo; } >"$work/frames"
     { repeat "$((inputs - 1))" ffefffffffffffff && echo ffeffffffffffffG; } >>"$work/frames"
-    show "$work/recipe" /dev/null "$work/frames" examples/camera_wrap/answers
+    show "$work/recipe" /dev/null /dev/null "$work/frames" examples/camera_wrap/answers
     has "-1.7976931348623157e+308 .. 1.7976931348623157e+308" "not this recipe's sheet"
     [ "$inputs" -gt 128 ] || has "-1.7976931348623157e+308, -1.7976931348623157e+308"
 done
 
 # What cannot be read is said to be so.
 for wrong in "$work/missing" "$work"; do
-    for place in 1 2 3 4; do
-        set -- examples/camera_wrap/recipe examples/camera_wrap/sheet examples/camera_wrap/frames examples/camera_wrap/answers
-        case $place in
-        1) set -- "$wrong" "$2" "$3" "$4" ;;
-        2) set -- "$1" "$wrong" "$3" "$4" ;;
-        3) set -- "$1" "$2" "$wrong" "$4" ;;
-        4) set -- "$1" "$2" "$3" "$wrong" ;;
-        esac
+    for place in recipe sheet explanation frames answers; do
+        set --
+        for name in recipe sheet explanation frames answers; do
+            [ $name = $place ] && set -- "$@" "$wrong" || set -- "$@" examples/camera_wrap/$name
+        done
         status=0
         "$work/readable" "$@" >"$work/shown" 2>"$work/errors" || status=$?
         if [ "$status" -ne 1 ] || ! grep -q "^$wrong: " "$work/errors"; then

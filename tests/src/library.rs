@@ -1,8 +1,8 @@
 //! The library's C functions. Those of single values take and return numbers only, so every call is
-//! safe; `run` and `sheet` have safe forms over slices.
+//! safe; `run`, `sheet` and `explain` have safe forms over slices.
 
 use crate::answer::Answer;
-use crate::reference::recipe::{Refusal, StepValue};
+use crate::reference::recipe::{Explanation, Refusal, StepValue};
 use std::fmt;
 
 /// A whole number and the refusal number, `ew_whole` of the header.
@@ -189,6 +189,59 @@ impl fmt::Display for SheetAnswer {
     }
 }
 
+/// What an explanation gives back, `ew_explain_answer` of the header: the number and place of a
+/// refusal from 10 to 17; or the step that the sheet refuses, the step of its operand, and the
+/// reason's code. What isn't given is 0: of a passed recipe, all five.
+#[repr(C)]
+#[derive(Clone, Copy, Debug, PartialEq, Eq)]
+pub struct ExplainAnswer {
+    pub refusal: u64,
+    pub place: u64,
+    pub step: u64,
+    pub operand: u64,
+    pub reason: u64,
+}
+
+impl ExplainAnswer {
+    /// The answer of a passed recipe.
+    pub const PASSED: ExplainAnswer = ExplainAnswer {
+        refusal: 0,
+        place: 0,
+        step: 0,
+        operand: 0,
+        reason: 0,
+    };
+}
+
+impl From<Refusal> for ExplainAnswer {
+    fn from(refusal: Refusal) -> ExplainAnswer {
+        ExplainAnswer {
+            refusal: refusal.number,
+            place: refusal.place,
+            ..ExplainAnswer::PASSED
+        }
+    }
+}
+
+impl From<Explanation> for ExplainAnswer {
+    fn from(explanation: Explanation) -> ExplainAnswer {
+        ExplainAnswer {
+            step: explanation.step as u64,
+            operand: explanation.operand as u64,
+            reason: explanation.code.into(),
+            ..ExplainAnswer::PASSED
+        }
+    }
+}
+
+impl fmt::Display for ExplainAnswer {
+    fn fmt(&self, f: &mut fmt::Formatter) -> fmt::Result {
+        let (step, operand, reason) = (self.step, self.operand, self.reason);
+        write!(f, "refusal {} place {} ", self.refusal, self.place)?;
+        write!(f, "step {step} operand {operand} reason {reason:02x}")
+    }
+}
+
 /// `ew_run`: `words` is the lent memory.
 #[inline]
 pub fn run(text: &[u8], frame: &[u8], words: &mut [u64]) -> RunAnswer {
@@ -212,6 +265,13 @@ pub fn sheet(text: &[u8], sheet: &mut [u8]) -> SheetAnswer {
     unsafe { ew_sheet(text.as_ptr(), text.len(), sheet.as_mut_ptr(), sheet.len()) }
 }
 
+/// `ew_explain`: no memory is lent.
+#[inline]
+pub fn explain(text: &[u8]) -> ExplainAnswer {
+    // SAFETY: the pointer and length are those of a slice.
+    unsafe { ew_explain(text.as_ptr(), text.len()) }
+}
+
 unsafe extern "C" {
     /// Reads `text` and `frame` and writes `words`, each as long as the number after it says. A
     /// pointer may be null where that is 0.
@@ -231,6 +291,8 @@ unsafe extern "C" {
         sheet: *mut u8,
         sheet_len: usize,
     ) -> SheetAnswer;
+    /// Reads `text`, as long as the number after it says. The pointer may be null where that is 0.
+    pub fn ew_explain(text: *const u8, text_len: usize) -> ExplainAnswer;
     pub safe fn ew_floor_f64(x: u64) -> u64;
     pub safe fn ew_floor_f32(x: u32) -> u32;
     pub safe fn ew_floor_f16(x: u16) -> u16;

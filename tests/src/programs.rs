@@ -1,9 +1,9 @@
-//! The programs `sheet` and `run` of document 01, "Sheet and run on paper", each as a function from
-//! all bytes of its input to all bytes of its output.
+//! The programs `sheet` and `run` of document 01, "Sheet and run on paper", and `explain` of
+//! request W-205, each as a function from all bytes of its input to all bytes of its output.
 
 use crate::reference::recipe::text::{self, MOST_STEPS};
-use crate::reference::recipe::{run, sheet, Refusal, Way};
-use std::io::Write;
+use crate::reference::recipe::{explain, run, sheet, Explanation, Refusal, Way};
+use std::io::{self, Read, Write};
 
 /// Bytes among which the empty line after a recipe has to be found: as many as the longest recipe
 /// has, and the empty line's own line feed.
@@ -19,6 +19,34 @@ pub fn sheet_output(way: Way, input: &[u8]) -> Vec<u8> {
         Ok(ranges) => sheet::bytes(&ranges),
         Err(refusal) => refusal_line(refusal),
     }
+}
+
+/// "A program that reads as the sheet program does and writes one line": "the step, the operand's
+/// step and a reason code, two hex digits each, run together", "a passed recipe answers 00; a
+/// recipe refused earlier gives that refusal".
+pub fn explain_output(way: Way, input: &[u8]) -> Vec<u8> {
+    match explain(way, input) {
+        Err(refusal) => refusal_line(refusal),
+        Ok(None) => line(format_args!("00")),
+        Ok(Some(explanation)) => {
+            let Explanation {
+                step,
+                operand,
+                code,
+            } = explanation;
+            line(format_args!("{step:02x}{operand:02x}{code:02x}"))
+        }
+    }
+}
+
+/// Answers the recipe on standard input to standard output, as a program over the reference.
+pub fn answer_recipe(output: fn(Way, &[u8]) -> Vec<u8>) {
+    /// One byte more than the longest recipe has: enough to see that a text is too long.
+    const ENOUGH: u64 = 4_993;
+    let mut input = Vec::new();
+    // An input that fails is taken to end there, and a failing output has nobody to tell.
+    let _ = io::stdin().lock().take(ENOUGH).read_to_end(&mut input);
+    let _ = io::stdout().write_all(&output(Way::Exact, &input));
 }
 
 /// "The run program reads a recipe, an empty line, then one frame a line .. It answers a line a
@@ -91,6 +119,16 @@ mod tests {
     fn the_example_of_document_01() {
         let input = format!("{RECIPE}\nbfe0000000000000\n401e000000000000\n");
         assert_eq!(answers(&input), "02ffffffffffffffff\nff2000\n");
+    }
+
+    /// Lines of W-205: nothing to explain, a step, and a recipe refused earlier.
+    #[test]
+    fn the_lines_of_an_explanation() {
+        let explain = |input: &str| explain_output(Way::Exact, input.as_bytes());
+        assert_eq!(explain(RECIPE), b"00\n");
+        assert_eq!(explain(&RECIPE.replace("401d", "7ff0")), b"020105\n");
+        assert_eq!(explain(&RECIPE.replace("1801", "1802")), b"ff0e02\n");
+        assert_eq!(explain(&format!("{RECIPE}\n")), b"ff0a00\n");
     }
 
     #[test]

@@ -4,7 +4,7 @@
 //! other.
 
 use estrenwind_tests::answer::Answer;
-use estrenwind_tests::programs::{run_output, sheet_output};
+use estrenwind_tests::programs::{explain_output, run_output, sheet_output};
 use estrenwind_tests::reference::recipe::{frame, sheet, text, Way};
 use estrenwind_tests::reference::{conversion, rounding, BINARY16, BINARY32};
 use std::collections::{BTreeMap, BTreeSet};
@@ -112,6 +112,54 @@ fn examples_of_the_manual_pages() {
     let (input, output) = example("man/run.1");
     assert_eq!(run_output(Way::Exact, input.as_bytes()), output.as_bytes());
     assert_eq!(output.lines().count(), 2);
+    let (input, output) = example("man/explain.1");
+    assert_eq!(
+        explain_output(Way::Exact, input.as_bytes()),
+        output.as_bytes()
+    );
+}
+
+/// The header, the manual page and docs/FORMATS.md have all thirteen reasons, and the recipe that
+/// FORMATS has for each is explained by it.
+#[test]
+fn every_reason_is_told_of() {
+    let header = read("include/estrenwind.h");
+    let page = read("man/explain.1");
+    let formats = read("docs/FORMATS.md");
+    let (_, section) = formats
+        .split_once("### Why a sheet is refused\n")
+        .expect("the heading is there");
+    let (section, _) = section.split_once("### ").expect("another one follows");
+    let mut recipes: Vec<(&str, String)> = Vec::new();
+    for line in section.lines() {
+        let digits = line.trim();
+        let is_hex = digits.bytes().all(|byte| byte.is_ascii_hexdigit());
+        match (line.len() - line.trim_start().len(), digits.len()) {
+            (4, 6) if is_hex => recipes.push((digits, String::new())),
+            (8, 38) if is_hex => {
+                let (_, recipe) = recipes.last_mut().expect("a line explains the recipe");
+                recipe.push_str(&format!("{digits}\n"));
+            }
+            _ => {}
+        }
+    }
+    assert_eq!(recipes.len(), 13);
+    for (code, (line, recipe)) in (1u64..).zip(&recipes) {
+        assert_eq!(
+            explain_output(Way::Exact, recipe.as_bytes()),
+            format!("{line}\n").as_bytes()
+        );
+        assert!(line.ends_with(&format!("{code:02x}")), "{line}");
+        assert!(
+            header.contains(&format!(" = {code}, ")) || header.contains(&format!(" = {code} "))
+        );
+        assert!(
+            page.contains(&format!("\n{code:02x}\t")),
+            "man/explain.1 has no row for {code:02x}"
+        );
+    }
+    let names = header.matches("    EW_REASON_").count();
+    assert_eq!(names, 14, "thirteen and EW_REASON_NONE");
 }
 
 /// The indented blocks of docs/FORMATS.md that are a recipe, its sheet, an input of `run` and its answers.

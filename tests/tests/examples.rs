@@ -1,19 +1,28 @@
-//! The folders of examples/: what stands in `sheet` and `answers` is what the reference gives for
-//! `recipe` and `frames`, and the README shows every line of them.
+//! The folders of examples/: what stands in `sheet`, `explanation` and `answers` is what the
+//! reference gives for `recipe` and `frames`, a mended recipe's sheet passes, and the README shows
+//! every line of them.
 
-use estrenwind_tests::programs::{run_output, sheet_output};
+use estrenwind_tests::programs::{explain_output, run_output, sheet_output};
 use estrenwind_tests::reference::recipe::Way;
 use std::fs;
 use std::path::{Path, PathBuf};
 
-fn examples() -> Vec<PathBuf> {
+/// The folders that have a file of this name.
+fn folders_with(name: &str) -> Vec<PathBuf> {
     let folder = Path::new(env!("CARGO_MANIFEST_DIR")).join("../examples");
     let entries = fs::read_dir(folder)
         .unwrap()
         .map(|entry| entry.unwrap().path());
-    entries
-        .filter(|path| path.join("recipe").exists())
-        .collect()
+    entries.filter(|path| path.join(name).exists()).collect()
+}
+
+fn examples() -> Vec<PathBuf> {
+    folders_with("recipe")
+}
+
+/// Those of a slip, with the recipe mended.
+fn slips() -> Vec<PathBuf> {
+    folders_with("mended")
 }
 
 fn read(example: &Path, name: &str) -> String {
@@ -25,53 +34,83 @@ fn text(bytes: Vec<u8>) -> String {
     String::from_utf8(bytes).unwrap()
 }
 
+/// Two files of a folder hold a recipe's sheet and its answers to the folder's frames.
+fn shown_and_answered(example: &Path, recipe: &str, sheet: &str, answers: &str) {
+    let [recipe, sheet, frames, answers] =
+        [recipe, sheet, "frames", answers].map(|name| read(example, name));
+    let shown = text(sheet_output(Way::Exact, recipe.as_bytes()));
+    assert_eq!(sheet, shown, "{}", example.display());
+    let answered = text(run_output(
+        Way::Exact,
+        format!("{recipe}\n{frames}").as_bytes(),
+    ));
+    assert_eq!(answers, answered, "{}", example.display());
+    assert_eq!(frames.lines().count(), answers.lines().count());
+}
+
 #[test]
-fn sheets_and_answers_are_the_reference_s() {
-    assert_eq!(examples().len(), 4);
+fn sheets_explanations_and_answers_are_the_reference_s() {
+    assert_eq!(examples().len(), 7);
     for example in examples() {
-        let (recipe, frames) = (read(&example, "recipe"), read(&example, "frames"));
-        let sheet = sheet_output(Way::Exact, recipe.as_bytes());
+        shown_and_answered(&example, "recipe", "sheet", "answers");
+        let explained = text(explain_output(
+            Way::Exact,
+            read(&example, "recipe").as_bytes(),
+        ));
         assert_eq!(
-            read(&example, "sheet"),
-            text(sheet),
+            read(&example, "explanation"),
+            explained,
             "{}",
             example.display()
-        );
-        let answers = run_output(Way::Exact, format!("{recipe}\n{frames}").as_bytes());
-        assert_eq!(
-            read(&example, "answers"),
-            text(answers),
-            "{}",
-            example.display()
-        );
-        assert_eq!(
-            frames.lines().count(),
-            read(&example, "answers").lines().count()
         );
     }
 }
 
 #[test]
+fn slips_are_mended() {
+    assert_eq!(slips().len(), 3);
+    for example in slips() {
+        shown_and_answered(&example, "mended", "mended_sheet", "mended_answers");
+        assert_ne!(read(&example, "explanation"), "00\n");
+        let [mended, sheet] = ["mended", "mended_sheet"].map(|name| read(&example, name));
+        assert_eq!(sheet.lines().count(), mended.lines().count(), "it passes");
+    }
+}
+
+/// Whether a README has a line with all of these, each in backquotes.
+fn shows(example: &Path, words: &[&str]) {
+    let shown = read(example, "README.md")
+        .lines()
+        .any(|line| words.iter().all(|word| line.contains(&format!("`{word}`"))));
+    assert!(
+        shown,
+        "{}: README.md has no line with {words:?}",
+        example.display()
+    );
+}
+
+#[test]
 fn every_line_is_explained() {
     for example in examples() {
-        let [readme, recipe, sheet, frames, answers] =
-            ["README.md", "recipe", "sheet", "frames", "answers"].map(|name| read(&example, name));
-        let shows = |words: &[&str]| {
-            let shown = readme
-                .lines()
-                .any(|line| words.iter().all(|word| line.contains(&format!("`{word}`"))));
-            assert!(
-                shown,
-                "{}: README.md has no line with {words:?}",
-                example.display()
-            );
-        };
-        recipe.lines().for_each(|line| shows(&[line]));
-        sheet.lines().for_each(|line| shows(&[line]));
-        frames
-            .lines()
-            .zip(answers.lines())
-            .for_each(|(frame, answer)| shows(&[frame, answer]));
+        let [recipe, sheet, explanation, frames, answers] =
+            ["recipe", "sheet", "explanation", "frames", "answers"]
+                .map(|name| read(&example, name));
+        recipe.lines().for_each(|line| shows(&example, &[line]));
+        sheet.lines().for_each(|line| shows(&example, &[line]));
+        if explanation != "00\n" {
+            shows(&example, &[explanation.trim()]);
+        }
+        for (frame, answer) in frames.lines().zip(answers.lines()) {
+            shows(&example, &[frame, answer]);
+        }
+    }
+    for example in slips() {
+        let [mended, sheet, frames, answers] =
+            ["mended", "mended_sheet", "frames", "mended_answers"].map(|name| read(&example, name));
+        let steps = mended.lines().zip(sheet.lines());
+        for (line, other) in steps.chain(frames.lines().zip(answers.lines())) {
+            shows(&example, &[line, other]);
+        }
     }
 }
 

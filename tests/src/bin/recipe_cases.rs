@@ -4,30 +4,44 @@
 //!     recipe_cases input    an input for the program run: a recipe whose sheet passes, and frames
 
 use estrenwind_tests::patterns::Random;
-use estrenwind_tests::recipes::faults::{damaged, REFUSALS};
+use estrenwind_tests::recipes::faults::{damaged, REFUSALS, SHEET_REFUSALS};
 use estrenwind_tests::recipes::growing::{grow_sheet, Plan};
+use estrenwind_tests::recipes::reasons::{FACTS, PLACES};
 use estrenwind_tests::recipes::{frame, RunCall, SheetCall};
 use std::io::{self, BufWriter, Write};
 
 const CALLS: usize = 20_000;
 const FRAMES: usize = 20_000;
 
-/// Runs that complete and runs with a fault, recipes whose sheets pass and ones with a fault.
+/// One of these, or none.
+fn fault(random: &mut Random, refusals: &[u64]) -> Vec<u64> {
+    match random.below(2) {
+        0 => vec![random.one_of(refusals)],
+        _ => vec![],
+    }
+}
+
+/// Runs that complete and runs with a fault, recipes whose sheets pass and ones with a fault, and
+/// recipes turned down for every reason.
 fn write_calls(output: &mut impl Write) -> io::Result<()> {
     let mut random = Random::new(91);
     for call in 0..CALLS {
-        let fault = match call % 4 {
-            0 => vec![REFUSALS[random.below(15) as usize]],
-            _ => vec![],
-        };
-        let (text, frame) = match call % 2 {
+        let no_frame = vec![b'0'; 16];
+        let (text, frame) = match call % 3 {
             0 => {
+                let fault = fault(&mut random, &REFUSALS);
                 let (call, _) = damaged::<RunCall>(&mut random, &fault);
                 (call.text, call.frame)
             }
-            _ => {
+            1 => {
+                let fault = fault(&mut random, &SHEET_REFUSALS);
                 let (call, _) = damaged::<SheetCall>(&mut random, &fault);
-                (call.text, vec![b'0'; 16])
+                (call.text, no_frame)
+            }
+            _ => {
+                let (facts, place) = (random.one_of(&FACTS), random.one_of(&PLACES));
+                let (draft, _) = random.turned_down(&facts, place, false);
+                (draft.explain_call().text, no_frame)
             }
         };
         for bytes in [&text, &frame] {

@@ -4,13 +4,16 @@
 //! 64 recipes each of 16, 32, 64 and 128 steps, over numbers as a host has them and over those of
 //! the tests, which are harder: subnormal, huge, with exponents far apart. The two take turns, and
 //! so do the lengths; each number is a median of its turns, so that what else the machine does
-//! falls on all. `--profile speed` leaves out the overflow checks that the tests have. Fails where
-//! a sheet misses a target.
+//! falls on all. `--profile speed` leaves out the overflow checks that the tests have. Then
+//! explanations beside sheets, on the same recipes, and on ones that are turned down at their last
+//! step. Fails where a sheet or an explanation misses a target.
 
 use estrenwind_tests::patterns::Random;
 use estrenwind_tests::recipes::growing::{grow, grow_sheet, Plan};
+use estrenwind_tests::recipes::reasons::{Place, FACTS};
 use estrenwind_tests::recipes::{RunCall, SheetCall};
 use estrenwind_tests::{interpreter, library};
+use std::array;
 use std::hint::black_box;
 use std::process::ExitCode;
 use std::time::Instant;
@@ -23,6 +26,9 @@ const STEPS: [usize; 4] = [16, 32, 64, 128];
 /// a step of a sheet of 16: what it takes grows with the steps and not faster.
 const MOST_TIMES: f64 = 2.0;
 const MOST_GROWTH: f64 = 1.25;
+
+/// An explanation may take so many times the time of the sheet of the same recipe.
+const MOST_OF_A_SHEET: f64 = 1.2;
 
 /// Recipes of so many steps, one in eight an input.
 fn plan(steps: usize, ordinary: bool) -> Plan {
@@ -67,16 +73,16 @@ impl Times {
 }
 
 /// The times on calls of each length.
-fn race<C>(
-    calls: &[Vec<C>; 4],
+fn race<C, const N: usize>(
+    steps: [usize; N],
+    calls: &[Vec<C>; N],
     mut library: impl FnMut(&C),
     mut plain: impl FnMut(&C),
-) -> [Times; 4] {
-    let mut ours = [const { Vec::new() }; 4];
-    let mut theirs = [const { Vec::new() }; 4];
+) -> [Times; N] {
+    let mut ours = [const { Vec::new() }; N];
+    let mut theirs = [const { Vec::new() }; N];
     for turn in 0..TURNS {
-        for length in 0..4 {
-            let calls = &calls[length];
+        for (length, calls) in calls.iter().enumerate() {
             // Whoever goes second finds the texts in the cache.
             if turn % 2 == 0 {
                 ours[length].push(time(&mut library, calls));
@@ -88,8 +94,8 @@ fn race<C>(
         }
     }
     let [ours, theirs] = [ours, theirs].map(|times| times.map(median));
-    [0, 1, 2, 3].map(|length| Times {
-        steps: STEPS[length],
+    array::from_fn(|length| Times {
+        steps: steps[length],
         library: ours[length],
         plain: theirs[length],
     })
@@ -110,6 +116,7 @@ fn race_runs(ordinary: bool) -> [Times; 4] {
         assert_eq!(answer.refusal, 0, "{call}");
     }
     race(
+        STEPS,
         &calls,
         |call| {
             let (text, frame) = (black_box(&call.text), black_box(&call.frame));
@@ -122,13 +129,47 @@ fn race_runs(ordinary: bool) -> [Times; 4] {
     )
 }
 
-fn race_sheets(ordinary: bool) -> [Times; 4] {
+fn sheet_calls(ordinary: bool) -> [Vec<SheetCall>; 4] {
     let mut random = Random::new(42);
-    let calls: [Vec<SheetCall>; 4] = STEPS.map(|steps| {
+    STEPS.map(|steps| {
         let plan = plan(steps, ordinary);
         let mut call = || grow_sheet(&mut random, &plan).0.sheet_call();
         (0..RECIPES).map(|_| call()).collect()
-    });
+    })
+}
+
+/// Recipes that are turned down at their last step, for every reason: of three steps at most, and
+/// of 128.
+fn turned_down_calls() -> [Vec<SheetCall>; 2] {
+    let mut random = Random::new(43);
+    [Place::First, Place::Last].map(|place| {
+        let facts = FACTS.iter().cycle().take(RECIPES);
+        let mut call = |facts| {
+            let (mut draft, step) = random.turned_down(facts, place, false);
+            draft.lines.truncate(step + 1);
+            draft.sheet_call()
+        };
+        facts.map(|facts| call(facts)).collect()
+    })
+}
+
+/// The library's explanations beside its own sheets.
+fn race_explanations<const N: usize>(steps: [usize; N], calls: &[Vec<SheetCall>; N]) -> [Times; N] {
+    let mut sheet = [0; 37 * 128];
+    race(
+        steps,
+        calls,
+        |call| {
+            black_box(library::explain(black_box(&call.text)));
+        },
+        |call| {
+            black_box(library::sheet(black_box(&call.text), &mut sheet));
+        },
+    )
+}
+
+fn race_sheets(ordinary: bool) -> [Times; 4] {
+    let calls = sheet_calls(ordinary);
     let [mut ours, mut theirs] = [[0; 37 * 128]; 2];
     for call in calls.iter().flatten() {
         let answer = library::sheet(&call.text, &mut ours);
@@ -137,6 +178,7 @@ fn race_sheets(ordinary: bool) -> [Times; 4] {
         assert_eq!(answer.refusal, 0, "{call}");
     }
     race(
+        STEPS,
         &calls,
         |call| {
             black_box(library::sheet(black_box(&call.text), &mut ours));
@@ -167,6 +209,18 @@ fn print(title: &str, times: &[Times; 4]) {
     }
 }
 
+/// Whether an explanation takes no longer than it may, beside the sheet.
+fn is_explained_in_time(what: &str, times: &Times) -> bool {
+    println!(
+        "{what} of {} steps takes {:.2} times its sheet's time, {:.0} ns and {:.0} (at most {MOST_OF_A_SHEET})",
+        times.steps,
+        times.ratio(),
+        times.library,
+        times.plain,
+    );
+    times.ratio() <= MOST_OF_A_SHEET
+}
+
 fn main() -> ExitCode {
     let mut missed = false;
     for (numbers, ordinary) in [
@@ -181,9 +235,20 @@ fn main() -> ExitCode {
         println!("128 steps take {ratio:.2} times the plain sheet's time (at most {MOST_TIMES})");
         println!("a step of 128 takes {growth:.2} times one of 16 (at most {MOST_GROWTH})");
         missed |= ratio > MOST_TIMES || growth > MOST_GROWTH;
+        for times in race_explanations(STEPS, &sheet_calls(ordinary)) {
+            missed |= !is_explained_in_time("an explanation", &times);
+        }
+    }
+    let calls = turned_down_calls();
+    for call in calls.iter().flatten() {
+        let refusal = library::sheet(&call.text, &mut [0; 37 * 128]).refusal;
+        assert!((20..=22).contains(&refusal), "{call}");
+    }
+    for times in race_explanations([3, 128], &calls) {
+        missed |= !is_explained_in_time("turned down at the last, an explanation", &times);
     }
     if missed {
-        println!("the sheet misses a target");
+        println!("a target is missed");
         return ExitCode::FAILURE;
     }
     ExitCode::SUCCESS

@@ -1,23 +1,28 @@
-//! What the library is called with: a run, or a sheet. Both read the text of a recipe and write
-//! to memory that is lent, so what is said of both is said over `Call`.
+//! What the library is called with: a run, a sheet, or an explanation. Each reads the text of a
+//! recipe, and the first two write to memory that is lent, so what is said of all is said over
+//! `Call`.
 
-use super::faults::{REFUSALS, SHEET_REFUSALS};
+use super::faults::{EXPLAIN_REFUSALS, REFUSALS, SHEET_REFUSALS};
 use super::growing::{grow, grow_sheet, Grow};
 use super::Draft;
-use crate::library::{self, RunAnswer, SheetAnswer};
-use crate::reference::recipe::{run, sheet, Refusal, StepRange, StepValue, Way};
+use crate::library::{self, ExplainAnswer, RunAnswer, SheetAnswer};
+use crate::reference::recipe::{
+    explain, run, sheet, Explanation, Refusal, StepRange, StepValue, Way,
+};
 use std::fmt;
 
-/// A run or a sheet.
+/// A run, a sheet or an explanation.
 pub trait Call: Clone + fmt::Debug + fmt::Display + PartialEq + Send + Sync {
     type Answer: Copy + fmt::Debug + fmt::Display + PartialEq + From<Refusal>;
     /// A piece of the lent memory.
     type Unit: Copy + fmt::Debug + PartialEq;
-    /// What the reference gives for a step.
-    type Step: fmt::Debug + PartialEq;
+    /// What the reference works out where it gives no refusal.
+    type Worked: fmt::Debug + PartialEq;
 
     /// Every refusal that it can be given.
     const REFUSALS: &'static [u64];
+    /// Every code of a reason that it can be given.
+    const REASONS: &'static [u64] = &[];
     /// Makes recipes that it isn't refused for, unless that is planned.
     const GROW: Grow;
     /// Units around the lent memory that it may not touch.
@@ -40,20 +45,24 @@ pub trait Call: Clone + fmt::Debug + fmt::Display + PartialEq + Send + Sync {
     fn pattern(place: usize) -> Self::Unit;
     /// The library's answer, over this memory.
     fn library(&self, memory: &mut [Self::Unit]) -> Self::Answer;
-    /// The reference's steps, or its refusal.
-    fn reference(&self, way: Way) -> Result<Vec<Self::Step>, Refusal>;
-    /// The answer that tells of these steps.
-    fn answer(steps: &[Self::Step]) -> Self::Answer;
-    /// What these steps leave in the memory, from its start.
-    fn written(steps: &[Self::Step]) -> Vec<Self::Unit>;
+    /// What the reference works out, or its refusal.
+    fn reference(&self, way: Way) -> Result<Self::Worked, Refusal>;
+    /// The answer that tells of it.
+    fn answer(worked: &Self::Worked) -> Self::Answer;
+    /// What it leaves in the memory, from its start.
+    fn written(worked: &Self::Worked) -> Vec<Self::Unit>;
     /// The refusal in an answer, number 0 where there is none.
     fn refusal(answer: Self::Answer) -> Refusal;
+    /// The code of the reason in an answer, 0 where there is none.
+    fn reason(_: Self::Answer) -> u64 {
+        0
+    }
     /// Tells where the memory, with what is around it, isn't what was expected. Nothing where it is.
     fn told(memory: &[Self::Unit], expected: &[Self::Unit]) -> String;
 
-    /// So many units of memory lent as they are before a call, with those around them.
-    fn filled(lent: usize) -> Vec<Self::Unit> {
-        let places = 0..Self::BEFORE + lent + Self::BEYOND;
+    /// The memory as it is before a call, with the units around it.
+    fn filled(&self) -> Vec<Self::Unit> {
+        let places = 0..Self::BEFORE + self.lent() + Self::BEYOND;
         places.map(Self::pattern).collect()
     }
 }
@@ -70,7 +79,7 @@ pub struct RunCall {
 impl Call for RunCall {
     type Answer = RunAnswer;
     type Unit = u64;
-    type Step = StepValue;
+    type Worked = Vec<StepValue>;
 
     const REFUSALS: &'static [u64] = &REFUSALS;
     const GROW: Grow = grow;
@@ -114,11 +123,11 @@ impl Call for RunCall {
         run(way, &self.text, &self.frame, self.lent)
     }
 
-    fn answer(values: &[StepValue]) -> RunAnswer {
+    fn answer(values: &Vec<StepValue>) -> RunAnswer {
         RunAnswer::from(*values.last().expect("a recipe has a step"))
     }
 
-    fn written(values: &[StepValue]) -> Vec<u64> {
+    fn written(values: &Vec<StepValue>) -> Vec<u64> {
         values.iter().map(|value| value.word).collect()
     }
 
@@ -162,7 +171,7 @@ pub struct SheetCall {
 impl Call for SheetCall {
     type Answer = SheetAnswer;
     type Unit = u8;
-    type Step = StepRange;
+    type Worked = Vec<StepRange>;
 
     const REFUSALS: &'static [u64] = &SHEET_REFUSALS;
     const GROW: Grow = grow_sheet;
@@ -206,11 +215,11 @@ impl Call for SheetCall {
         sheet(way, &self.text, self.lent)
     }
 
-    fn answer(ranges: &[StepRange]) -> SheetAnswer {
+    fn answer(ranges: &Vec<StepRange>) -> SheetAnswer {
         SheetAnswer::passed(ranges.len())
     }
 
-    fn written(ranges: &[StepRange]) -> Vec<u8> {
+    fn written(ranges: &Vec<StepRange>) -> Vec<u8> {
         sheet::bytes(ranges)
     }
 
@@ -238,6 +247,107 @@ impl fmt::Display for SheetCall {
     fn fmt(&self, f: &mut fmt::Formatter) -> fmt::Result {
         write_text(f, &self.text)?;
         write!(f, "{} bytes lent", self.lent)
+    }
+}
+
+/// What an explanation is called with.
+#[derive(Clone, Debug, PartialEq, Eq)]
+pub struct ExplainCall {
+    pub text: Vec<u8>,
+}
+
+/// No memory is lent. The text lies in its place, at an odd address: a call leaves it, and what is
+/// around it, as it was.
+impl Call for ExplainCall {
+    type Answer = ExplainAnswer;
+    type Unit = u8;
+    type Worked = Option<Explanation>;
+
+    const REFUSALS: &'static [u64] = &EXPLAIN_REFUSALS;
+    const REASONS: &'static [u64] = &[1, 2, 3, 4, 5, 6, 7, 8, 9, 10, 11, 12, 13];
+    const GROW: Grow = grow_sheet;
+    const BEFORE: usize = 5;
+    const BEYOND: usize = 40;
+    const MOST_SPARE: u64 = 0;
+
+    fn of(draft: &Draft) -> ExplainCall {
+        draft.explain_call()
+    }
+
+    fn text(&self) -> &[u8] {
+        &self.text
+    }
+
+    fn text_mut(&mut self) -> &mut Vec<u8> {
+        &mut self.text
+    }
+
+    fn frame_mut(&mut self) -> Option<&mut Vec<u8>> {
+        None
+    }
+
+    fn lent(&self) -> usize {
+        self.text.len()
+    }
+
+    fn lend(&mut self, _: usize) {}
+
+    fn pattern(place: usize) -> u8 {
+        SheetCall::pattern(place)
+    }
+
+    fn filled(&self) -> Vec<u8> {
+        let around = |count: usize| (0..count).map(Self::pattern);
+        let text = self.text.iter().copied();
+        around(Self::BEFORE)
+            .chain(text)
+            .chain(around(Self::BEYOND))
+            .collect()
+    }
+
+    fn library(&self, text: &mut [u8]) -> ExplainAnswer {
+        library::explain(text)
+    }
+
+    fn reference(&self, way: Way) -> Result<Option<Explanation>, Refusal> {
+        explain(way, &self.text)
+    }
+
+    fn answer(explanation: &Option<Explanation>) -> ExplainAnswer {
+        explanation.map_or(ExplainAnswer::PASSED, ExplainAnswer::from)
+    }
+
+    fn written(_: &Option<Explanation>) -> Vec<u8> {
+        Vec::new()
+    }
+
+    /// That of the text, or that of the sheet which is explained.
+    fn refusal(answer: ExplainAnswer) -> Refusal {
+        let (number, place) = match answer.reason {
+            0x00 => (answer.refusal, answer.place),
+            0x01..=0x03 => (20, answer.step),
+            0x04..=0x0b => (21, answer.step),
+            0x0c | 0x0d => (22, answer.step),
+            reason => panic!("there is no reason {reason:x}"),
+        };
+        Refusal { number, place }
+    }
+
+    fn reason(answer: ExplainAnswer) -> u64 {
+        answer.reason
+    }
+
+    fn told(text: &[u8], expected: &[u8]) -> String {
+        match text.iter().zip(expected).filter(|(x, y)| x != y).count() {
+            0 => String::new(),
+            changed => format!("{changed} bytes of the text or around it have changed\n"),
+        }
+    }
+}
+
+impl fmt::Display for ExplainCall {
+    fn fmt(&self, f: &mut fmt::Formatter) -> fmt::Result {
+        write_text(f, &self.text)
     }
 }
 

@@ -14,7 +14,7 @@ pub struct Outcome<C: Call> {
 impl<C: Call> Outcome<C> {
     /// Of `make`, which is given the lent memory.
     pub fn made(call: &C, make: impl FnOnce(&mut [C::Unit]) -> C::Answer) -> Outcome<C> {
-        let mut memory = C::filled(call.lent());
+        let mut memory = call.filled();
         let answer = make(&mut memory[C::BEFORE..][..call.lent()]);
         Outcome { answer, memory }
     }
@@ -23,15 +23,15 @@ impl<C: Call> Outcome<C> {
         Outcome::made(call, |memory| call.library(memory))
     }
 
-    /// By the reference. A call that is answered writes what its steps leave and nothing after it;
-    /// a refused one writes nothing.
+    /// By the reference. A call that is answered writes what was worked out and nothing after it; a
+    /// refused one writes nothing.
     pub fn expected(way: Way, call: &C) -> Outcome<C> {
         Outcome::made(call, |memory| match call.reference(way) {
             Err(refusal) => C::Answer::from(refusal),
-            Ok(steps) => {
-                let written = C::written(&steps);
+            Ok(worked) => {
+                let written = C::written(&worked);
                 memory[..written.len()].copy_from_slice(&written);
-                C::answer(&steps)
+                C::answer(&worked)
             }
         })
     }
@@ -65,7 +65,7 @@ pub fn check<C: Call>(way: Way, call: &C) -> Outcome<C> {
 #[cfg(test)]
 mod tests {
     use super::*;
-    use crate::recipes::{RunCall, SheetCall};
+    use crate::recipes::{ExplainCall, RunCall, SheetCall};
 
     /// A comparison that found nothing would let every library pass.
     fn every_difference_is_told<C: Call>(call: &C, changes: &[fn(&mut Outcome<C>)]) {
@@ -115,6 +115,28 @@ mod tests {
                 |outcome| outcome.memory[BEFORE] += 1,
                 |outcome| outcome.memory[BEFORE + 36] += 1,
                 |outcome| outcome.memory[BEFORE + 37] += 1,
+                |outcome| outcome.memory[BEFORE + 39] += 1,
+            ],
+        );
+    }
+
+    #[test]
+    fn every_difference_of_an_explanation_is_told() {
+        const BEFORE: usize = ExplainCall::BEFORE;
+        let call = ExplainCall {
+            text: b"040000000000000000002a0000000000000000\n".to_vec(),
+        };
+        every_difference_is_told(
+            &call,
+            &[
+                |outcome| outcome.answer.refusal += 1,
+                |outcome| outcome.answer.place += 1,
+                |outcome| outcome.answer.step += 1,
+                |outcome| outcome.answer.operand += 1,
+                |outcome| outcome.answer.reason += 1,
+                |outcome| outcome.memory[BEFORE - 1] += 1,
+                |outcome| outcome.memory[BEFORE] += 1,
+                |outcome| outcome.memory[BEFORE + 38] += 1,
                 |outcome| outcome.memory[BEFORE + 39] += 1,
             ],
         );

@@ -1,5 +1,5 @@
-//! Damaged calls of runs and sheets: each refusal at the first, some or the last place, alone or
-//! beside another.
+//! Damaged calls of runs, sheets and explanations: each refusal at the first, some or the last
+//! place, alone or beside another.
 //!
 //! A fault is known by the number of the refusal that it is there for.
 
@@ -15,6 +15,9 @@ pub const REFUSALS: [u64; 15] = [10, 11, 12, 13, 14, 15, 16, 17, 40, 30, 31, 32,
 
 /// Every refusal of a sheet.
 pub const SHEET_REFUSALS: [u64; 12] = [10, 11, 12, 13, 14, 15, 16, 17, 40, 20, 21, 22];
+
+/// Every refusal that is given or explained where no memory is lent: those of a sheet with room.
+pub const EXPLAIN_REFUSALS: [u64; 11] = [10, 11, 12, 13, 14, 15, 16, 17, 20, 21, 22];
 
 /// A call with these faults, and the refusals that each alone would be given: fewer where one
 /// didn't fit. Without faults, a call that is answered.
@@ -336,7 +339,8 @@ fn input_outside(random: &mut Random, draft: &mut Draft) -> Option<usize> {
 #[cfg(test)]
 mod tests {
     use super::*;
-    use crate::recipes::{RunCall, SheetCall};
+    use crate::recipes::comparison::Outcome;
+    use crate::recipes::{ExplainCall, RunCall, SheetCall};
     use std::collections::BTreeMap;
 
     /// "Order: 10; then line by line 11 to 17; then 40; for a run 30, 31, then 32 by input; then
@@ -358,19 +362,17 @@ mod tests {
 
     fn check<C: Call>(random: &mut Random, faults: &[u64]) -> Vec<Refusal> {
         let (call, refusals) = damaged::<C>(random, faults);
-        let answer = call.reference(Way::Short);
+        let answer = Outcome::expected(Way::Short, &call).answer;
+        let given = Some(C::refusal(answer)).filter(|refusal| refusal.number != 0);
         let expected = refusals.iter().min_by_key(|refusal| turn(refusal));
-        assert_eq!(
-            answer.err().as_ref(),
-            expected,
-            "{faults:?} {refusals:?}\n{call}"
-        );
+        assert_eq!(given.as_ref(), expected, "{faults:?} {refusals:?}\n{call}");
         refusals
     }
 
-    const CALLS: [(Check, &[u64]); 2] = [
+    const CALLS: [(Check, &[u64]); 3] = [
         (check::<RunCall>, &REFUSALS),
         (check::<SheetCall>, &SHEET_REFUSALS),
+        (check::<ExplainCall>, &EXPLAIN_REFUSALS),
     ];
 
     #[test]

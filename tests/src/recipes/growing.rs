@@ -7,7 +7,7 @@ use super::{Draft, Line};
 use crate::patterns::Random;
 use crate::reference::recipe::operations::Function;
 use crate::reference::recipe::text::{MOST_INPUTS, MOST_STEPS};
-use crate::reference::recipe::{Kind, Range, Source, Way, OPERATIONS};
+use crate::reference::recipe::{Kind, Operation, Range, Source, Way, OPERATIONS};
 
 /// What a recipe is to be like.
 #[derive(Clone, Debug)]
@@ -190,16 +190,26 @@ pub type Grow = fn(&mut Random, &Plan) -> (Draft, Vec<(usize, u64)>);
 /// The recipe and frame of a plan, and those of its steps that refuse the run. After one of them
 /// values are made up.
 pub fn grow(random: &mut Random, plan: &Plan) -> (Draft, Vec<(usize, u64)>) {
-    grow_along::<Value>(random, plan)
+    grow_along::<Value>(random, plan, &[])
 }
 
 /// The recipe of a plan with a frame in its ranges, and those of its steps that refuse the sheet.
 /// After one of them ranges are made up.
 pub fn grow_sheet(random: &mut Random, plan: &Plan) -> (Draft, Vec<(usize, u64)>) {
-    grow_along::<Range>(random, plan)
+    grow_along::<Range>(random, plan, &[])
 }
 
-fn grow_along<K: Known>(random: &mut Random, plan: &Plan) -> (Draft, Vec<(usize, u64)>) {
+/// The same around these lines, which come first at their places. What a line gives that is refused
+/// is made up.
+pub fn grow_sheet_around(random: &mut Random, plan: &Plan, lines: &[(usize, Line)]) -> Draft {
+    grow_along::<Range>(random, plan, lines).0
+}
+
+fn grow_along<K: Known>(
+    random: &mut Random,
+    plan: &Plan,
+    lines: &[(usize, Line)],
+) -> (Draft, Vec<(usize, u64)>) {
     let mut growing = Growing::<K> {
         random,
         ordinary: plan.ordinary,
@@ -215,7 +225,10 @@ fn grow_along<K: Known>(random: &mut Random, plan: &Plan) -> (Draft, Vec<(usize,
                 .find(planned)
                 .map(|&(_, number)| number)
         };
-        if plan.inputs.contains(&place) {
+        let given = lines.iter().find(|&&(at, _)| at == place);
+        if let Some(&(_, line)) = given {
+            growing.add_line(line);
+        } else if plan.inputs.contains(&place) {
             growing.add_input();
         } else if let Some(number) = planned(place..=place) {
             if growing.add_refusing(number) {
@@ -270,6 +283,36 @@ impl<K: Known> Growing<'_, K> {
         self.add(Line::input(kind, range), kind, K::of_input(range, word));
     }
 
+    /// A line as it is.
+    fn add_line(&mut self, line: Line) {
+        let operation = line.operation().expect("an opcode");
+        let (kind, range) = (operation.kind, [line.p, line.q]);
+        let known = match operation.source {
+            Source::Input => {
+                let word = self.random.inside(kind, range);
+                self.draft.words.push(word);
+                K::of_input(range, word)
+            }
+            Source::Constant => K::of_word(line.p),
+            Source::One { .. } | Source::Two { .. } => self
+                .outcome(operation, line.a.into(), line.b.into())
+                .unwrap_or_else(|_| K::of_word(self.random.value(kind))),
+        };
+        self.add(line, kind, known);
+    }
+
+    /// What is known of a step on these two, of which it may use one.
+    fn outcome(&self, operation: &Operation, a: usize, b: usize) -> Result<K, u64> {
+        let at = |place: usize| self.known[place].1;
+        let function = operation.function().expect("it works on other steps");
+        let b = if operation.uses_b() {
+            at(b)
+        } else {
+            K::of_word(0)
+        };
+        K::of_step(function, at(a), b)
+    }
+
     /// An earlier step of this kind, one of the last few in half of the cases.
     fn operand(&mut self, kind: Kind) -> Option<usize> {
         let recent = self.known.len().saturating_sub(4);
@@ -305,13 +348,9 @@ impl<K: Known> Growing<'_, K> {
             let choice = self.random.below(fits.len().max(1) as u64) as usize;
             places[*fits.get(choice)?] = last;
         }
+        operation.function()?;
         let [a, b] = places;
-        let at = |place: usize| self.known[place].1;
-        let outcome = match &operation.source {
-            Source::Input | Source::Constant => return None,
-            Source::One { function, .. } => K::of_step(function, at(a), K::of_word(0)),
-            Source::Two { function, .. } => K::of_step(function, at(a), at(b)),
-        };
+        let outcome = self.outcome(operation, a, b);
         let b = if operation.uses_b() { b } else { 0 };
         Some((Line::step(operation.opcode, a, b), operation.kind, outcome))
     }

@@ -1,19 +1,21 @@
-//! Calls of a run and of a sheet that the library is tried on: recipes of all lengths with frames
-//! for them, whole ones and damaged ones.
+//! Calls of a run, of a sheet and of an explanation that the library is tried on: recipes of all
+//! lengths with frames for them, whole ones and damaged ones.
 //!
 //! `growing` makes valid recipes along a frame or along ranges, `values` the constants, ranges and
 //! inputs in them, and `faults` damages them: one fault or two, each at the first, some or the last
-//! place. `comparison` holds what the library makes of a call beside what the reference does, and
-//! `walks` is what both calls are tried on.
+//! place. `reasons` makes recipes that are turned down for chosen reasons. `comparison` holds what
+//! the library makes of a call beside what the reference does, and `walks` is what all calls are
+//! tried on.
 
 pub mod calls;
 pub mod comparison;
 pub mod faults;
 pub mod growing;
+pub mod reasons;
 pub mod values;
 pub mod walks;
 
-pub use calls::{Call, RunCall, SheetCall};
+pub use calls::{Call, ExplainCall, RunCall, SheetCall};
 
 use crate::reference::recipe::{sheet, text, Kind, Operation};
 
@@ -51,6 +53,11 @@ impl Line {
             q,
             ..Line::default()
         }
+    }
+
+    /// An input from one number to another.
+    pub fn input_of<E: Ends>(ends: E) -> Line {
+        Line::input(E::KIND, ends.words())
     }
 
     /// A step that works on earlier ones.
@@ -97,6 +104,26 @@ fn write_digits(text: &mut Vec<u8>, digits: u32, field: u64) {
     }
 }
 
+/// The ends of a range as numbers, and the kind that they are of.
+pub trait Ends: Copy {
+    const KIND: Kind;
+    fn words(self) -> [u64; 2];
+}
+
+impl Ends for [f64; 2] {
+    const KIND: Kind = Kind::Double;
+    fn words(self) -> [u64; 2] {
+        self.map(f64::to_bits)
+    }
+}
+
+impl Ends for [i64; 2] {
+    const KIND: Kind = Kind::Whole;
+    fn words(self) -> [u64; 2] {
+        self.map(|n| n as u64)
+    }
+}
+
 /// A recipe's lines and a word for each of its inputs.
 #[derive(Clone, Debug, Default)]
 pub struct Draft {
@@ -135,6 +162,11 @@ impl Draft {
             lent: sheet::LINE * self.lines.len(),
         }
     }
+
+    /// The explanation of its recipe.
+    pub fn explain_call(&self) -> ExplainCall {
+        ExplainCall { text: self.text() }
+    }
 }
 
 /// The frame that holds these words.
@@ -169,5 +201,6 @@ mod tests {
         assert_eq!((call.lent, draft.inputs()), (3, vec![0]));
         let call = draft.sheet_call();
         assert_eq!((&call.text[..], call.lent), (text.as_bytes(), 111));
+        assert_eq!(draft.explain_call().text, text.as_bytes());
     }
 }

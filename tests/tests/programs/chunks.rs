@@ -2,8 +2,8 @@
 //! before the next one is written.
 
 use crate::child::Child;
-use crate::literal::{longest, EXAMPLE, FRAME};
-use crate::{assert_same, Program, RUN, SHEET};
+use crate::literal::{longest, EXAMPLE, FRAME, TURNED_DOWN};
+use crate::{assert_same, Program, OF_RECIPES, RUN};
 use estrenwind_tests::patterns::Random;
 use estrenwind_tests::reference::recipe::Way;
 
@@ -37,8 +37,11 @@ fn frames() -> String {
 
 #[test]
 fn a_byte_at_a_time() {
-    check(&SHEET, EXAMPLE.as_bytes(), &[1]);
-    check(&SHEET, format!("{EXAMPLE}\n").as_bytes(), &[1]);
+    for program in OF_RECIPES {
+        for input in [EXAMPLE, &format!("{EXAMPLE}\n"), TURNED_DOWN, &longest()] {
+            check(&program, input.as_bytes(), &[1]);
+        }
+    }
     check(&RUN, format!("{EXAMPLE}\n{}", frames()).as_bytes(), &[1]);
     check(&RUN, format!("{EXAMPLE}\n{}\n", frames()).as_bytes(), &[1]);
     check(
@@ -46,7 +49,6 @@ fn a_byte_at_a_time() {
         format!("{}\n{}", longest(), frames()).as_bytes(),
         &[1],
     );
-    check(&SHEET, longest().as_bytes(), &[1]);
 }
 
 #[test]
@@ -66,8 +68,10 @@ fn odd_sizes() {
         &[4_993],
     ] {
         check(&RUN, input.as_bytes(), sizes);
-        check(&SHEET, longest().as_bytes(), sizes);
-        check(&SHEET, input.as_bytes(), sizes);
+        for program in OF_RECIPES {
+            check(&program, longest().as_bytes(), sizes);
+            check(&program, input.as_bytes(), sizes);
+        }
     }
 }
 
@@ -78,8 +82,12 @@ fn every_cut() {
     for cut in 1..input.len() {
         check(&RUN, input.as_bytes(), &[cut, input.len()]);
     }
-    for cut in 1..EXAMPLE.len() {
-        check(&SHEET, EXAMPLE.as_bytes(), &[cut, EXAMPLE.len()]);
+    for program in OF_RECIPES {
+        for recipe in [EXAMPLE, TURNED_DOWN] {
+            for cut in 1..recipe.len() {
+                check(&program, recipe.as_bytes(), &[cut, recipe.len()]);
+            }
+        }
     }
 }
 
@@ -94,5 +102,8 @@ fn sizes_at_random() {
             frames().repeat(1 + random.below(10) as usize)
         );
         check(&RUN, input.as_bytes(), &sizes);
+        for program in OF_RECIPES {
+            check(&program, longest().as_bytes(), &sizes);
+        }
     }
 }

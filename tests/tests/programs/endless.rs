@@ -5,7 +5,7 @@
 
 use crate::child::Child;
 use crate::literal::{longest, EXAMPLE, FRAME};
-use crate::{RUN, SHEET};
+use crate::{PROGRAMS, RUN};
 use std::path::Path;
 
 const MIB: usize = 1 << 20;
@@ -67,7 +67,7 @@ fn a_frame_line() {
 
 #[test]
 fn a_recipe() {
-    for program in [RUN, SHEET] {
+    for program in PROGRAMS {
         for path in program.paths() {
             for byte in [b'0', 0] {
                 let answers = answers(&path, b"", &vec![byte; MIB], endless(), b"\n\n");

@@ -13,7 +13,7 @@ mod writing;
 
 use crate::child::{Child, Ending};
 use crate::literal::{longest, EXAMPLE};
-use crate::{assert_same, Program, RUN, SHEET};
+use crate::{assert_same, Program, PROGRAMS, RUN};
 use estrenwind_tests::reference::recipe::Way;
 use reading::failing_after;
 use std::ffi::{c_char, c_uint};
@@ -27,32 +27,18 @@ use std::process::Command;
 impl Program {
     /// What the program says of a read that failed.
     pub fn cannot_read(&self, why: &str) -> String {
-        self.failure("no sheet is written", "read standard input", why)
+        let (name, what) = (self.name, self.unread);
+        format!("{name}: {what}: cannot read standard input: {why}\n")
     }
 
     /// What the program says of a write that failed.
     pub fn cannot_write(&self, why: &str) -> String {
-        self.failure("the sheet is incomplete", "write standard output", why)
+        let (name, what) = (self.name, self.unwritten);
+        format!("{name}: {what}: cannot write standard output: {why}\n")
     }
 
-    /// The program's line about a call that failed, with what that means for a sheet.
-    fn failure(&self, of_a_sheet: &str, call: &str, why: &str) -> String {
-        let what = match self.name {
-            "run" => "answers are incomplete",
-            _ => of_a_sheet,
-        };
-        format!("{}: {what}: cannot {call}: {why}\n", self.name)
-    }
-
-    /// How the line about an argument begins.
-    fn usage(&self) -> &'static str {
-        match self.name {
-            "run" => "usage: run <input >answers",
-            _ => "usage: sheet <recipe >sheet",
-        }
-    }
-
-    /// An input with little to write, one with much, and one with a refusal.
+    /// An input with little to write, one with much (but of an explanation), and one with a
+    /// refusal.
     fn inputs(&self) -> [String; 3] {
         match self.name {
             "run" => [counted(1), counted(20_000), EXAMPLE[1..].to_string()],
@@ -66,7 +52,7 @@ impl Program {
     }
 
     /// What it writes where a read fails after these bytes, of a recipe that is not refused: the answers
-    /// to whole lines, or no sheet.
+    /// to whole lines, or no sheet, or no explanation.
     fn before_failure(&self, input: &[u8]) -> Vec<u8> {
         let has_frames = input.windows(2).any(|pair| pair == b"\n\n");
         let end = input.iter().rposition(|&byte| byte == b'\n');
@@ -134,7 +120,7 @@ fn left_out(what: &str) {
 #[test]
 fn standard_error_fails_too() {
     for errors in ["2>&-", "2>/dev/full", "2</dev/null"] {
-        for program in [RUN, SHEET] {
+        for program in PROGRAMS {
             let [_, input, _] = program.inputs();
             let whole = program.whole(&input);
             for (redirections, output) in [
@@ -176,7 +162,7 @@ fn both_fail() {
 #[test]
 fn the_documents_have_the_lines() {
     let folder = Path::new(env!("CARGO_MANIFEST_DIR")).join("..");
-    for program in [RUN, SHEET] {
+    for program in PROGRAMS {
         let page = format!("man/{}.1", program.name);
         for document in ["docs/FORMATS.md", &page] {
             let text = fs::read_to_string(folder.join(document)).unwrap();
@@ -184,7 +170,7 @@ fn the_documents_have_the_lines() {
             for line in lines.iter().map(|line| line.trim_end()) {
                 assert!(text.contains(line), "{document} lacks {line}");
             }
-            assert!(text.contains(program.usage()), "{document}");
+            assert!(text.contains(program.usage), "{document}");
         }
     }
 }

@@ -1,7 +1,7 @@
 //! Inputs that are no text, or have nothing in them.
 
-use crate::literal::EXAMPLE;
-use crate::{assert_same, Program, RUN, SHEET};
+use crate::literal::{EXAMPLE, TURNED_DOWN};
+use crate::{assert_same, Program, EXPLAIN, PROGRAMS, RUN, SHEET};
 use estrenwind_tests::patterns::Random;
 use estrenwind_tests::reference::recipe::Way;
 use std::fs::File;
@@ -18,7 +18,7 @@ fn output_of_file(program: &Path, input: File) -> Vec<u8> {
 
 #[test]
 fn nothing_at_all() {
-    for program in [SHEET, RUN] {
+    for program in PROGRAMS {
         for path in program.paths() {
             let null = File::open("/dev/null").unwrap();
             assert_same(&path, b"", &output_of_file(&path, null), b"ff0a00\n");
@@ -56,13 +56,19 @@ fn the_examples() {
         let example = entry.unwrap().path();
         let read = |name| std::fs::read_to_string(example.join(name)).unwrap();
         if example.join("recipe").exists() {
+            let input = |recipe| format!("{}\n{}", read(recipe), read("frames"));
             SHEET.prints(read("recipe"), &read("sheet"));
-            let input = format!("{}\n{}", read("recipe"), read("frames"));
-            RUN.prints(input, &read("answers"));
+            EXPLAIN.prints(read("recipe"), &read("explanation"));
+            RUN.prints(input("recipe"), &read("answers"));
+            if example.join("mended").exists() {
+                SHEET.prints(read("mended"), &read("mended_sheet"));
+                EXPLAIN.prints(read("mended"), "00\n");
+                RUN.prints(input("mended"), &read("mended_answers"));
+            }
             found += 1;
         }
     }
-    assert_eq!(found, 4);
+    assert_eq!(found, 7);
 }
 
 /// Bytes of all values, among which line feeds and digits are common or not.
@@ -98,6 +104,8 @@ fn noise_for_a_recipe() {
     check_noise(&RUN, 52, b"");
     check_noise(&SHEET, 53, EXAMPLE.as_bytes());
     check_noise(&RUN, 54, EXAMPLE.as_bytes());
+    check_noise(&EXPLAIN, 58, b"");
+    check_noise(&EXPLAIN, 59, TURNED_DOWN.as_bytes());
 }
 
 #[test]

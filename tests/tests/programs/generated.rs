@@ -1,10 +1,11 @@
 //! Files as the tests of recipes make them: recipes of 1 to 128 steps, whole and damaged, with frames
 //! for them, whole and damaged.
 
-use crate::{RUN, SHEET};
+use crate::{EXPLAIN, RUN, SHEET};
 use estrenwind_tests::patterns::Random;
-use estrenwind_tests::recipes::faults::damaged;
-use estrenwind_tests::recipes::{frame, RunCall, SheetCall};
+use estrenwind_tests::recipes::faults::{damaged, EXPLAIN_REFUSALS};
+use estrenwind_tests::recipes::reasons::{FACTS, PLACES};
+use estrenwind_tests::recipes::{frame, Call, ExplainCall, RunCall, SheetCall};
 use estrenwind_tests::reference::recipe::{text, Step, Way};
 use std::collections::BTreeMap;
 
@@ -12,7 +13,7 @@ use std::collections::BTreeMap;
 const OF_TEXTS: [u64; 8] = [10, 11, 12, 13, 14, 15, 16, 17];
 
 /// The refusals of a sheet that has room.
-const OF_SHEETS: [u64; 11] = [10, 11, 12, 13, 14, 15, 16, 17, 20, 21, 22];
+const OF_SHEETS: [u64; 11] = EXPLAIN_REFUSALS;
 
 /// A recipe, one in four of them damaged. One with a step that refuses comes with its frame.
 fn recipe(random: &mut Random) -> (Vec<u8>, Vec<u8>) {
@@ -133,5 +134,50 @@ fn sheets() {
     for number in OF_SHEETS {
         let found = counts.get(&number).copied().unwrap_or_default();
         assert!(found >= 10, "{number} came up {found} times: {counts:?}");
+    }
+}
+
+/// Recipes as for a sheet, and ones that are turned down for every set of facts that can be true at
+/// once.
+#[test]
+fn explanations() {
+    let mut random = Random::new(63);
+    let (mut reasons, mut refusals) = (BTreeMap::new(), BTreeMap::new());
+    let mut check = |text: &[u8]| {
+        let output = EXPLAIN.check(Way::Short, text);
+        match output.len() {
+            7 if output.starts_with(b"ff") => count(&output, &mut refusals),
+            // The step and the operand's stand before the code.
+            7 => count(&output[4..], &mut reasons),
+            _ => count(&output, &mut reasons),
+        }
+    };
+    for turn in 0..800 {
+        let fault = match turn % 2 {
+            0 => vec![],
+            _ => vec![OF_SHEETS[random.below(11) as usize]],
+        };
+        check(&damaged::<ExplainCall>(&mut random, &fault).0.text);
+    }
+    for turn in 0..15 {
+        for facts in &FACTS {
+            let place = PLACES[random.below(3) as usize];
+            let same = facts.of_one_step && turn % 3 == 0;
+            check(&random.turned_down(facts, place, same).0.explain_call().text);
+        }
+    }
+    for (number, least) in [(0, 300)]
+        .into_iter()
+        .chain(ExplainCall::REASONS.iter().map(|&reason| (reason, 15)))
+    {
+        let found = reasons.get(&number).copied().unwrap_or_default();
+        assert!(
+            found >= least,
+            "{number:x} came up {found} times: {reasons:?}"
+        );
+    }
+    for number in OF_TEXTS {
+        let found = refusals.get(&number).copied().unwrap_or_default();
+        assert!(found >= 10, "{number} came up {found} times: {refusals:?}");
     }
 }

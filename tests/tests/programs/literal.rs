@@ -1,6 +1,6 @@
-//! Files written out, with answers read off document 01 by hand.
+//! Files written out, with answers read off document 01 and request W-205 by hand.
 
-use crate::{RUN, SHEET};
+use crate::{EXPLAIN, OF_RECIPES, RUN, SHEET};
 
 pub const EXAMPLE: &str = "\
 010000c004000000000000401d000000000000
@@ -12,6 +12,13 @@ const SHEET_OF_EXAMPLE: &str = "\
 0001c004000000000000401d000000000000
 0101c008000000000000401c000000000000
 0202fffffffffffffffd0000000000000007
+";
+
+/// The example up to infinity: lround, at step 2, is refused for the high end of floor's range.
+pub const TURNED_DOWN: &str = "\
+010000c0040000000000007ff0000000000000
+10000000000000000000000000000000000000
+18010000000000000000000000000000000000
 ";
 
 /// -0.5 and what it gives.
@@ -35,6 +42,55 @@ fn the_example_of_document_01() {
     SHEET.prints(EXAMPLE, SHEET_OF_EXAMPLE);
     let input = format!("{EXAMPLE}\nbfe0000000000000\n401e000000000000\n");
     RUN.prints(input, "02ffffffffffffffff\nff2000\n");
+}
+
+/// "The step, the operand's step and a reason code, two hex digits each, run together. .. A passed
+/// recipe answers 00."
+#[test]
+fn why_a_recipe_is_turned_down() {
+    let steps_before = format!("{}{}", &TURNED_DOWN[..39], FLOOR.repeat(126));
+    for (recipe, line) in [
+        (EXAMPLE, "00\n"),
+        (FIVE, "00\n"),
+        (&longest(), "00\n"),
+        (TURNED_DOWN, "020105\n"),
+        (&TURNED_DOWN.replace("c004", "fff0"), "020104\n"),
+        (&format!("{TURNED_DOWN}{TURNED_DOWN}"), "020105\n"),
+        (&format!("{steps_before}1800{:034}\n", 0), "7f0005\n"),
+        (&format!("{steps_before}187e{:034}\n", 0), "7f7e05\n"),
+        (&format!("{steps_before}220a7e{:032}\n", 0), "7f7e01\n"),
+    ] {
+        EXPLAIN.prints(recipe, line);
+    }
+    // A divisor that may be zero, an infinite dividend, sums, scalings, and a whole number beyond
+    // 2^53.
+    let unit = "010000bff00000000000003ff0000000000000\n"; // -1 to 1
+    let down = "010000fff00000000000003ff0000000000000\n"; // -infinity to 1
+    let up = "010000bff00000000000007ff0000000000000\n"; // -1 to infinity
+    let three = "03000040080000000000000000000000000000\n";
+    let most = "0400007fffffffffffffff0000000000000000\n";
+    let powers = "02000000000000000000000000000000000400\n"; // 0 to 1,024
+    let wholes = "02000000000000000000000020000000000001\n"; // 0 to 2^53 + 1
+    let less = "020000ffdfffffffffffff0000000000000000\n"; // -2^53 - 1 to 0
+    let falling = "02000080000000000000000000000000000000\n"; // -2^63 to 0
+    let (fmod, ldexp) = (format!("220001{:032}\n", 0), format!("230001{:032}\n", 0));
+    let (sum, to_double) = (format!("300001{:032}\n", 0), format!("3200{:034}\n", 0));
+    for (recipe, line) in [
+        (format!("{three}{unit}{fmod}"), "020101\n"),
+        (format!("{down}{unit}{fmod}"), "020101\n"),
+        (format!("{down}{three}{fmod}"), "020002\n"),
+        (format!("{up}{three}{fmod}"), "020003\n"),
+        (format!("{falling}{falling}{sum}"), "020006\n"),
+        (format!("{wholes}{most}{sum}"), "020007\n"),
+        (format!("{down}{powers}{ldexp}"), "020008\n"),
+        (format!("{up}{powers}{ldexp}"), "020009\n"),
+        (format!("{unit}{powers}{ldexp}"), "02000a\n"),
+        (format!("{three}{powers}{ldexp}"), "02000b\n"),
+        (format!("{less}{to_double}"), "01000c\n"),
+        (format!("{wholes}{to_double}"), "01000d\n"),
+    ] {
+        EXPLAIN.prints(recipe, line);
+    }
 }
 
 #[test]
@@ -76,6 +132,7 @@ fn a_refused_recipe_gives_one_line() {
         ),
     ] {
         SHEET.prints(&recipe, refusal);
+        EXPLAIN.prints(&recipe, refusal);
         RUN.prints(&recipe, refusal);
         RUN.prints(format!("{recipe}{frames}"), refusal);
     }
@@ -83,6 +140,7 @@ fn a_refused_recipe_gives_one_line() {
     // may be zero.
     let beyond = format!("020000{:016x}{:016x}\n3200{:034}\n", 0, (1u64 << 53) + 1, 0);
     SHEET.prints(&beyond, "ff1601\n");
+    EXPLAIN.prints(&beyond, "01000d\n");
     RUN.prints(
         format!("{beyond}\n0000000000000001\n0020000000000001\n"),
         "013ff0000000000000\nff1601\n",
@@ -92,6 +150,7 @@ fn a_refused_recipe_gives_one_line() {
         "4000000000000000", 0
     );
     SHEET.prints(&divisor, "ff1401\n");
+    EXPLAIN.prints(&divisor, "010001\n");
     RUN.prints(
         format!("{divisor}\n3ff0000000000000\n0000000000000000\n"),
         "010000000000000000\nff1401\n",
@@ -103,12 +162,16 @@ fn no_recipe() {
     for input in ["", "\n", "\n\n", "\nbfe0000000000000\n"] {
         RUN.prints(input, "ff0a00\n");
         SHEET.prints(input, "ff0a00\n");
+        EXPLAIN.prints(input, "ff0a00\n");
     }
-    SHEET.prints(format!("{EXAMPLE}\n"), "ff0a00\n");
-    // A line feed first of all is an empty line to one program and a byte of the text to the other.
+    // A line feed first of all is an empty line to one program and a byte of the text to the
+    // others.
     let line = format!("\n{:038}", 0);
     RUN.prints(&line, "ff0a00\n");
-    SHEET.prints(&line, "ff0b00\n");
+    for program in OF_RECIPES {
+        program.prints(format!("{EXAMPLE}\n"), "ff0a00\n");
+        program.prints(&line, "ff0b00\n");
+    }
 }
 
 #[test]
@@ -148,6 +211,8 @@ fn a_last_line_may_lack_its_line_feed() {
     // A recipe's may not.
     RUN.prints(&EXAMPLE[..116], "ff0a00\n");
     SHEET.prints(&EXAMPLE[..116], "ff0a00\n");
+    EXPLAIN.prints(&EXAMPLE[..116], "ff0a00\n");
+    EXPLAIN.prints(&TURNED_DOWN[..116], "ff0a00\n");
 }
 
 #[test]
@@ -219,14 +284,16 @@ fn texts_about_as_long_as_the_longest() {
         &longest,
         &format!("0001c004000000000000401d000000000000\n{floors}"),
     );
-    for input in [
-        format!("{longest}\n"),
-        format!("{longest}0"),
-        format!("{longest}{FLOOR}"),
-        longest[1..].to_string(),
-        longest.repeat(2),
-    ] {
-        SHEET.prints(&input, "ff0a00\n");
+    for program in OF_RECIPES {
+        for input in [
+            format!("{longest}\n"),
+            format!("{longest}0"),
+            format!("{longest}{FLOOR}"),
+            longest[1..].to_string(),
+            longest.repeat(2),
+        ] {
+            program.prints(&input, "ff0a00\n");
+        }
+        program.prints(format!("{}g\n", &longest[..4_990]), "ff0b7f\n");
     }
-    SHEET.prints(format!("{}g\n", &longest[..4_990]), "ff0b7f\n");
 }

@@ -1,5 +1,5 @@
-//! The built programs `sheet` and `run` against the reference, byte for byte. The reference's own
-//! programs go through the same tests.
+//! The built programs `sheet`, `run` and `explain` against the reference, byte for byte. The
+//! reference's own programs go through the same tests.
 
 mod child;
 mod chunks;
@@ -12,28 +12,53 @@ mod outputs;
 mod stack;
 
 use child::Child;
-use estrenwind_tests::programs::{run_output, sheet_output};
+use estrenwind_tests::programs::{explain_output, run_output, sheet_output};
 use estrenwind_tests::reference::recipe::Way;
 use std::path::{Path, PathBuf};
 
-/// One of the two programs, and what document 01 says of it.
+/// One of the programs, and what document 01 or request W-205 says of it.
 struct Program {
     name: &'static str,
     reference: &'static str,
     output: fn(Way, &[u8]) -> Vec<u8>,
+    /// What it says of its output where a read failed, and where a write did.
+    unread: &'static str,
+    unwritten: &'static str,
+    /// How its line about an argument begins.
+    usage: &'static str,
 }
 
 const SHEET: Program = Program {
     name: "sheet",
     reference: env!("CARGO_BIN_EXE_reference_sheet"),
     output: sheet_output,
+    unread: "no sheet is written",
+    unwritten: "the sheet is incomplete",
+    usage: "usage: sheet <recipe >sheet",
 };
 
 const RUN: Program = Program {
     name: "run",
     reference: env!("CARGO_BIN_EXE_reference_run"),
     output: run_output,
+    unread: "answers are incomplete",
+    unwritten: "answers are incomplete",
+    usage: "usage: run <input >answers",
 };
+
+const EXPLAIN: Program = Program {
+    name: "explain",
+    reference: env!("CARGO_BIN_EXE_reference_explain"),
+    output: explain_output,
+    unread: "no explanation is written",
+    unwritten: "the explanation is incomplete",
+    usage: "usage: explain <recipe >explanation",
+};
+
+const PROGRAMS: [Program; 3] = [RUN, SHEET, EXPLAIN];
+
+/// Those whose whole input is a recipe.
+const OF_RECIPES: [Program; 2] = [SHEET, EXPLAIN];
 
 impl Program {
     /// The reference's program, and the one in the folder that ESTRENWIND_LIB_DIR names.
@@ -55,7 +80,7 @@ impl Program {
         built
     }
 
-    /// Every program of this name writes for this input what document 01 says.
+    /// Every program of this name writes for this input what the papers say.
     #[track_caller]
     fn check(&self, way: Way, input: &[u8]) -> Vec<u8> {
         let expected = (self.output)(way, input);

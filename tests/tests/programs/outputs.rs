@@ -3,7 +3,7 @@
 
 use crate::child::Child;
 use crate::literal::{EXAMPLE, FRAME};
-use crate::{Program, RUN, SHEET};
+use crate::{Program, PROGRAMS, RUN};
 use std::fs::OpenOptions;
 use std::io::Read;
 use std::os::unix::process::ExitStatusExt;
@@ -78,7 +78,7 @@ fn a_reader_that_goes_away() {
 
 #[test]
 fn a_reader_that_was_never_there() {
-    for program in [SHEET, RUN] {
+    for program in PROGRAMS {
         for path in program.paths() {
             for (mut command, by_signal) in starts(&path) {
                 let mut child = Child::spawn(command.stdout(Stdio::piped()));
@@ -93,7 +93,7 @@ fn a_reader_that_was_never_there() {
 
 #[test]
 fn a_full_device() {
-    for program in [SHEET, RUN] {
+    for program in PROGRAMS {
         for path in program.paths() {
             let full = OpenOptions::new().write(true).open("/dev/full").unwrap();
             let mut child = Child::spawn(Command::new(&path).stdout(full));

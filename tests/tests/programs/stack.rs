@@ -1,8 +1,8 @@
 //! A small stack: the programs keep their buffers on it, and little else.
 
 use crate::child::{Child, Ending};
-use crate::literal::{longest, EXAMPLE, FRAME};
-use crate::{Program, RUN, SHEET};
+use crate::literal::{longest, EXAMPLE, FRAME, TURNED_DOWN};
+use crate::{Program, OF_RECIPES, PROGRAMS, RUN};
 use estrenwind_tests::reference::recipe::Way;
 use std::process::Command;
 
@@ -26,8 +26,9 @@ fn check(program: &Program, kib: u32, input: &[u8]) {
     }
 }
 
-fn recipes() -> [String; 3] {
-    [EXAMPLE.to_string(), longest(), "0\n".to_string()]
+fn recipes() -> [String; 4] {
+    let [example, turned_down] = [EXAMPLE, TURNED_DOWN].map(str::to_string);
+    [example, turned_down, longest(), "0\n".to_string()]
 }
 
 #[test]
@@ -39,16 +40,18 @@ fn run_in_48_kib() {
 }
 
 #[test]
-fn sheet_in_32_kib() {
-    for recipe in recipes() {
-        check(&SHEET, 32, recipe.as_bytes());
+fn sheet_and_explain_in_32_kib() {
+    for program in OF_RECIPES {
+        for recipe in recipes() {
+            check(&program, 32, recipe.as_bytes());
+        }
     }
 }
 
 /// The line about a fault is put together in the same stack.
 #[test]
 fn faults_in_48_kib() {
-    for program in [RUN, SHEET] {
+    for program in PROGRAMS {
         for (redirections, errors) in [
             ("</", program.cannot_read("Is a directory")),
             (

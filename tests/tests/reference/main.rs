@@ -3,6 +3,7 @@
 
 mod conversion;
 mod counting;
+mod explain;
 mod fmod;
 mod format;
 mod ldexp;

@@ -5,10 +5,7 @@ use crate::recipe::both_ways_give_the_same;
 use estrenwind_tests::patterns::Random;
 use estrenwind_tests::recipes::growing::{grow, grow_sheet};
 use estrenwind_tests::recipes::{frame, SheetCall};
-use estrenwind_tests::reference::recipe::operations::Function;
-use estrenwind_tests::reference::recipe::{
-    run, sheet, Kind, Operation, Range, Source, StepRange, Way, OPERATIONS,
-};
+use estrenwind_tests::reference::recipe::{run, sheet, Kind, Range, StepRange, Way, OPERATIONS};
 use estrenwind_tests::reference::BINARY64;
 
 /// A range of up to seven numbers, and all of their words: of the zeros both. It starts near a
@@ -37,20 +34,13 @@ fn small_range(random: &mut Random, kind: Kind) -> (Range, Vec<u64>) {
     (Range { low, high }, words)
 }
 
-fn function(operation: &'static Operation) -> Option<&'static Function> {
-    match &operation.source {
-        Source::Input | Source::Constant => None,
-        Source::One { function, .. } | Source::Two { function, .. } => Some(function),
-    }
-}
-
 /// Every value of the operands gives a value in the range, and the ends of the range are among
 /// them: but for modf's fraction and fmod, whose rules say only how far the values can reach.
 #[test]
 fn ranges_hold_every_value_and_reach_no_further() {
     let mut random = Random::new(0x510);
     for operation in &OPERATIONS {
-        let Some(function) = function(operation) else {
+        let Some(function) = operation.function() else {
             continue;
         };
         let (kind, opcode) = (operation.kind, operation.opcode);
@@ -97,7 +87,7 @@ fn ranges_hold_every_value_and_reach_no_further() {
 fn where_the_rules_refuse_a_value_does() {
     let mut random = Random::new(0x511);
     for operation in &OPERATIONS {
-        let Some(function) = function(operation) else {
+        let Some(function) = operation.function() else {
             continue;
         };
         let operands = operation.source.operands();

@@ -47,7 +47,7 @@ fn the_example_s_sheet_is_as_printed() {
         assert_eq!(outcome.answer, passed(3));
         let end = BEFORE + EXAMPLE_SHEET.len();
         assert_eq!(outcome.memory[BEFORE..end], *EXAMPLE_SHEET.as_bytes());
-        let filled = SheetCall::filled(call.lent);
+        let filled = call.filled();
         assert_eq!(outcome.memory[..BEFORE], filled[..BEFORE]);
         assert_eq!(outcome.memory[end..], filled[end..]);
     }

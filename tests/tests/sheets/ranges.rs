@@ -6,7 +6,7 @@
 use crate::BEFORE;
 use estrenwind_tests::library::SheetAnswer;
 use estrenwind_tests::recipes::comparison::check;
-use estrenwind_tests::recipes::{Draft, Line};
+use estrenwind_tests::recipes::{Draft, Ends, Line};
 use estrenwind_tests::reference::recipe::{Kind, Way};
 
 /// The largest fraction, 1 - 2^-53.
@@ -20,30 +20,6 @@ const LEAST: i64 = i64::MIN;
 const MOST: i64 = i64::MAX;
 const TWO_53: i64 = 1 << 53;
 const TWO_63: f64 = 9_223_372_036_854_775_808.0;
-
-/// The ends of a range, and the kind that they are of.
-trait Ends: Copy {
-    const KIND: Kind;
-    fn words(self) -> [u64; 2];
-}
-
-impl Ends for [f64; 2] {
-    const KIND: Kind = Kind::Double;
-    fn words(self) -> [u64; 2] {
-        self.map(f64::to_bits)
-    }
-}
-
-impl Ends for [i64; 2] {
-    const KIND: Kind = Kind::Whole;
-    fn words(self) -> [u64; 2] {
-        self.map(|n| n as u64)
-    }
-}
-
-fn input<E: Ends>(ends: E) -> Line {
-    Line::input(E::KIND, ends.words())
-}
 
 #[track_caller]
 fn shows<R: Ends>(opcode: u8, inputs: &[Line], expected: Result<R, u64>) {
@@ -79,12 +55,12 @@ fn shows<R: Ends>(opcode: u8, inputs: &[Line], expected: Result<R, u64>) {
 
 #[track_caller]
 fn one<A: Ends, R: Ends>(opcode: u8, a: A, expected: Result<R, u64>) {
-    shows(opcode, &[input(a)], expected);
+    shows(opcode, &[Line::input_of(a)], expected);
 }
 
 #[track_caller]
 fn two<A: Ends, B: Ends, R: Ends>(opcode: u8, a: A, b: B, expected: Result<R, u64>) {
-    shows(opcode, &[input(a), input(b)], expected);
+    shows(opcode, &[Line::input_of(a), Line::input_of(b)], expected);
 }
 
 /// "function of each end". The sign of a zero is its end's.
@@ -406,13 +382,13 @@ fn inputs_and_constants() {
         [INF, INF],
         [-TINY, MAX],
     ] {
-        shown(input(ends), ends.words());
+        shown(Line::input_of(ends), ends.words());
         for p in ends {
             shown(Line::constant(Kind::Double, p.to_bits()), [p, p].words());
         }
     }
     for ends in [[LEAST, MOST], [-1, 0], [MOST, MOST], [LEAST, LEAST]] {
-        shown(input(ends), ends.words());
+        shown(Line::input_of(ends), ends.words());
         for p in ends {
             shown(Line::constant(Kind::Whole, p as u64), [p, p].words());
         }

@@ -10,11 +10,13 @@ use std::collections::BTreeMap;
 use std::ops::Range;
 
 /// How often each refusal was met, and how often at which step, 0 standing for a call that was
-/// answered, at its last step; and how often a step of each opcode was in such a call.
+/// answered, at its last step; how often each reason was; and how often a step of each opcode was
+/// in a call that was answered.
 #[derive(Default)]
 pub struct Counts {
     pub calls: u64,
     met: BTreeMap<u64, BTreeMap<u64, u64>>,
+    reasons: BTreeMap<u64, u64>,
     answered: BTreeMap<u8, u64>,
 }
 
@@ -29,6 +31,7 @@ impl Counts {
         };
         let places = self.met.entry(refusal.number).or_default();
         *places.entry(place).or_default() += 1;
+        *self.reasons.entry(C::reason(answer)).or_default() += 1;
         if refusal.number == 0 {
             for line in lines {
                 let opcode = std::str::from_utf8(&line[..2]).expect("digits");
@@ -45,6 +48,9 @@ impl Counts {
             for (place, count) in places {
                 *all.entry(place).or_default() += count;
             }
+        }
+        for (reason, count) in other.reasons {
+            *self.reasons.entry(reason).or_default() += count;
         }
         for (opcode, count) in other.answered {
             *self.answered.entry(opcode).or_default() += count;
@@ -65,7 +71,8 @@ impl Counts {
     }
 
     /// Stops where a refusal or a call that was answered was met too seldom, or not at the first, a
-    /// middle and the last step; or an opcode too seldom in calls that were answered.
+    /// middle and the last step; or a reason too seldom; or an opcode too seldom in calls that were
+    /// answered.
     pub fn expect_enough<C: Call>(&self) {
         println!("{} calls, {} answered", self.calls, self.of(0));
         for &refusal in C::REFUSALS {
@@ -97,6 +104,11 @@ impl Counts {
                 let met = self.at(refusal, place);
                 assert!(met >= 20, "{refusal} was met {met} times at step {place}");
             }
+        }
+        for &reason in C::REASONS {
+            let count = self.reasons.get(&reason).copied().unwrap_or(0);
+            println!("reason {reason:02x}: {count}");
+            assert!(count >= 1_000, "reason {reason:02x} was met {count} times");
         }
         for operation in &OPERATIONS {
             let opcode = operation.opcode;

@@ -16,7 +16,7 @@ pub fn of_lengths<C: Call>(draft: &Draft, needed: usize, lengths: impl Iterator<
         assert_eq!(outcome.refusal(), refusal, "{lent} of {needed}");
         let written = if refusal == 0 { needed } else { 0 };
         let (before, rest) = (C::BEFORE, C::BEFORE + written);
-        let filled = C::filled(lent);
+        let filled = call.filled();
         assert_eq!(outcome.memory[..before], filled[..before]);
         assert_eq!(outcome.memory[rest..], filled[rest..]);
     }
@@ -35,7 +35,7 @@ pub fn a_step_refused_last_of_all_leaves_nothing<C: Call>(seed: u64) {
                 let call = C::of(&draft);
                 let outcome = check(Way::Short, &call);
                 assert_eq!(outcome.refusal(), number);
-                assert_eq!(outcome.memory, C::filled(call.lent()));
+                assert_eq!(outcome.memory, call.filled());
                 met += 1;
             }
         }

@@ -1,5 +1,5 @@
-//! What a run and a sheet are both tried on, said once over the call that is made. Each walk stops
-//! where the library's outcome isn't the reference's, or where it met too little.
+//! What a run, a sheet and an explanation are all tried on, said once over the call that is made.
+//! Each walk stops where the library's outcome isn't the reference's, or where it met too little.
 
 pub mod agreement;
 pub mod bytes;

@@ -1,11 +1,13 @@
-//! Recipes, their runs and their sheets: "Recipe text" and "Turning text down" of document 01, rule
-//! by rule.
+//! Recipes, their runs, their sheets, and why they are turned down: "Recipe text" and "Turning text
+//! down" of document 01 and request W-205, rule by rule.
 //!
 //! `operations` is the table of steps, said once; `text` turns recipe text into steps, `frame`
 //! reads the inputs, `run` works the steps. `ranges` has the range rules, `sheet` works them step
-//! by step and writes them down. Doubles and whole numbers travel as words of 64 bits,
-//! and a step's kind tells which of the two its word is.
+//! by step and writes them down, `explain` tells which fact about them a refusal comes from.
+//! Doubles and whole numbers travel as words of 64 bits, and a step's kind tells which of the two
+//! its word is.
 
+pub mod explain;
 pub mod frame;
 pub mod operations;
 pub mod ranges;
@@ -13,6 +15,7 @@ pub mod run;
 pub mod sheet;
 pub mod text;
 
+pub use explain::{explain, Explanation};
 pub use operations::{Kind, Operation, Source, Way, OPERATIONS};
 pub use ranges::Range;
 pub use run::{run, StepValue};

@@ -94,6 +94,14 @@ impl Operation {
             .find(|operation| operation.opcode == opcode)
     }
 
+    /// How its value comes from those of other steps; none where it doesn't.
+    pub fn function(&self) -> Option<&Function> {
+        match &self.source {
+            Source::Input | Source::Constant => None,
+            Source::One { function, .. } | Source::Two { function, .. } => Some(function),
+        }
+    }
+
     pub fn is_input(&self) -> bool {
         matches!(self.source, Source::Input)
     }

@@ -102,7 +102,7 @@ pub fn of_magnitude(function: &Function, way: Way, a: Range, _: Range) -> Result
 /// "M = fmax(fabs b.low, fabs b.high). Low: +0 if a.low ≥ 0, else -fmin(fabs a.low, M). High: +0 if
 /// a.high ≤ 0, else fmin(a.high, M)". Refusal 20: "an infinite end of a, or b holds zero".
 pub fn of_remainder(_: &Function, way: Way, a: Range, b: Range) -> Result<Range, u64> {
-    if has_infinite_end(a) || b.holds(way, Kind::Double, PLUS_ZERO) {
+    if is_infinite(a.low) || is_infinite(a.high) || b.holds(way, Kind::Double, PLUS_ZERO) {
         return Err(20);
     }
     let m = fmax(way, BINARY64.fabs(b.low), BINARY64.fabs(b.high));
@@ -118,12 +118,22 @@ pub fn of_remainder(_: &Function, way: Way, a: Range, b: Range) -> Result<Range,
     })
 }
 
-/// "low: a.low by b.high if a.low < 0, else by b.low. High: a.high by b.high if a.high > 0, else by
-/// b.low". Refusal 21: "infinite end of a, or either end's scaling overflows".
+/// The ends of a, each scaled by its power. Refusal 21: "infinite end of a, or either end's scaling
+/// overflows".
 pub fn of_scaling(function: &Function, way: Way, a: Range, b: Range) -> Result<Range, u64> {
-    if has_infinite_end(a) {
+    if is_infinite(a.low) || is_infinite(a.high) {
         return Err(21);
     }
+    let [by_low, by_high] = scaling_powers(way, a, b);
+    Ok(Range {
+        low: function.value(way, a.low, by_low)?,
+        high: function.value(way, a.high, by_high)?,
+    })
+}
+
+/// The powers by which the low and the high end of a are scaled: "low: a.low by b.high if a.low <
+/// 0, else by b.low. High: a.high by b.high if a.high > 0, else by b.low".
+pub fn scaling_powers(way: Way, a: Range, b: Range) -> [u64; 2] {
     let by_low = match against_zero(way, a.low) {
         Ordering::Less => b.high,
         Ordering::Greater | Ordering::Equal => b.low,
@@ -132,10 +142,7 @@ pub fn of_scaling(function: &Function, way: Way, a: Range, b: Range) -> Result<R
         Ordering::Greater => b.high,
         Ordering::Less | Ordering::Equal => b.low,
     };
-    Ok(Range {
-        low: function.value(way, a.low, by_low)?,
-        high: function.value(way, a.high, by_high)?,
-    })
+    [by_low, by_high]
 }
 
 fn compare(way: Way, x: u64, y: u64) -> Ordering {
@@ -146,10 +153,9 @@ fn against_zero(way: Way, x: u64) -> Ordering {
     compare(way, x, PLUS_ZERO)
 }
 
-fn has_infinite_end(range: Range) -> bool {
-    [range.low, range.high]
-        .into_iter()
-        .any(|end| BINARY64.classify(end) == Class::Infinite)
+/// Whether an end of a double's range is an infinity.
+pub fn is_infinite(end: u64) -> bool {
+    BINARY64.classify(end) == Class::Infinite
 }
 
 fn fmin(way: Way, x: u64, y: u64) -> u64 {

@@ -26,7 +26,7 @@ pub fn sheet(way: Way, text: &[u8], lent: usize) -> Result<Vec<StepRange>, Refus
 }
 
 /// Every step's range, steps in order.
-fn ranges(way: Way, steps: &[Step]) -> Result<Vec<StepRange>, Refusal> {
+pub fn ranges(way: Way, steps: &[Step]) -> Result<Vec<StepRange>, Refusal> {
     let mut ranges: Vec<StepRange> = Vec::with_capacity(steps.len());
     for step in steps {
         let at = |place: usize| ranges[place].range;

@@ -2,13 +2,13 @@
 
 use super::file_of;
 use crate::child::Child;
-use crate::{RUN, SHEET};
+use crate::PROGRAMS;
 use std::io::Seek;
 use std::process::Command;
 
 #[test]
 fn usage() {
-    for program in [RUN, SHEET] {
+    for program in PROGRAMS {
         for arguments in [
             &["--help"][..],
             &["-h"],
@@ -27,11 +27,7 @@ fn usage() {
             let case = format!("{arguments:?}");
             program.assert_ended(&case, &ending, b"", &ending.errors);
             let line = ending.errors.strip_suffix('\n').unwrap_or_default();
-            assert!(
-                line.starts_with(program.usage()),
-                "{case}: {}",
-                ending.errors
-            );
+            assert!(line.starts_with(program.usage), "{case}: {}", ending.errors);
             assert!(!line.contains('\n'), "{case}: {}", ending.errors);
             // The two share the place up to which the file has been read.
             assert_eq!(input.stream_position().unwrap(), 0, "{case}");

@@ -5,8 +5,8 @@
 use super::left_out;
 use super::waiting::non_blocking;
 use crate::child::{Child, Ending};
-use crate::literal::EXAMPLE;
-use crate::{Program, RUN, SHEET};
+use crate::literal::{EXAMPLE, TURNED_DOWN};
+use crate::{Program, EXPLAIN, RUN, SHEET};
 use std::fs;
 use std::path::PathBuf;
 use std::process::{self, Command};
@@ -183,7 +183,7 @@ fn cases() -> Vec<Case> {
         "00000003\n0\n0000000000000005\n",
         "0000000000000006",
     ];
-    let sheet = vec![&EXAMPLE[..20], &EXAMPLE[20..78], &EXAMPLE[78..]];
+    let cut = |recipe: &'static str| vec![&recipe[..20], &recipe[20..78], &recipe[78..]];
     vec![
         Case {
             program: RUN,
@@ -191,7 +191,11 @@ fn cases() -> Vec<Case> {
         },
         Case {
             program: SHEET,
-            pieces: sheet,
+            pieces: cut(EXAMPLE),
+        },
+        Case {
+            program: EXPLAIN,
+            pieces: cut(TURNED_DOWN),
         },
     ]
 }

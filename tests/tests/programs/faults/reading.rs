@@ -3,8 +3,8 @@
 
 use super::{counted, file_of, redirected};
 use crate::child::Child;
-use crate::literal::{longest, EXAMPLE, FRAME};
-use crate::{Program, RUN, SHEET};
+use crate::literal::{longest, EXAMPLE, FRAME, TURNED_DOWN};
+use crate::{Program, OF_RECIPES, PROGRAMS, RUN};
 use std::ffi::c_void;
 use std::fs::File;
 use std::io::{Seek, SeekFrom};
@@ -88,7 +88,7 @@ fn no_input_at_all() {
         ("<&- >&-", "Bad file descriptor"),
         ("</ >/dev/full", "Is a directory"),
     ] {
-        for program in [RUN, SHEET] {
+        for program in PROGRAMS {
             let ending = Child::start_command(&mut redirected(&program, redirections)).ending();
             program.assert_ended(redirections, &ending, b"", &program.cannot_read(why));
         }
@@ -109,8 +109,12 @@ fn after_every_byte() {
             check(&RUN, bytes, &RUN.before_failure(bytes));
         }
     }
-    for length in 0..=EXAMPLE.len() {
-        check(&SHEET, &EXAMPLE.as_bytes()[..length], b"");
+    for program in OF_RECIPES {
+        for recipe in [EXAMPLE, TURNED_DOWN] {
+            for length in 0..=recipe.len() {
+                check(&program, &recipe.as_bytes()[..length], b"");
+            }
+        }
     }
 }
 
@@ -118,12 +122,14 @@ fn after_every_byte() {
 #[test]
 fn where_the_end_would_be_refused() {
     check(&RUN, &EXAMPLE.as_bytes()[1..], b"");
-    check(&SHEET, &EXAMPLE.as_bytes()[1..], b"");
     check(&RUN, format!("{}0", longest()).as_bytes(), b"");
     check(&RUN, "0".repeat(4_993).as_bytes(), b"");
     check(&RUN, format!("{}\n", longest()).as_bytes(), b"");
-    check(&SHEET, longest().as_bytes(), b"");
-    check(&SHEET, "0".repeat(4_992).as_bytes(), b"");
+    for program in OF_RECIPES {
+        check(&program, &EXAMPLE.as_bytes()[1..], b"");
+        check(&program, longest().as_bytes(), b"");
+        check(&program, "0".repeat(4_992).as_bytes(), b"");
+    }
     let line = format!("{EXAMPLE}\n{FRAME}\n{}", "0".repeat(300));
     check(&RUN, line.as_bytes(), b"02ffffffffffffffff\n");
     let line = format!("{EXAMPLE}\n{FRAME}\n{}", "0".repeat(100_000));

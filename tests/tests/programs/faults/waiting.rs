@@ -4,7 +4,7 @@
 use super::{counted, shell};
 use crate::child::Child;
 use crate::literal::longest;
-use crate::{Program, RUN, SHEET};
+use crate::{Program, EXPLAIN, RUN, SHEET};
 use std::io::{self, Read};
 use std::os::unix::process::{CommandExt, ExitStatusExt};
 use std::process::{ChildStdout, Command, Stdio};
@@ -25,6 +25,9 @@ const SIGPIPE: i32 = 13;
 const SIGCONT: i32 = 18;
 const SIGSTOP: i32 = 19;
 
+/// A page of memory, and the least that a pipe holds.
+const PAGE: usize = 4_096;
+
 /// The command with these descriptors non-blocking. Its output is a pipe of one page, which is soon
 /// full.
 pub fn non_blocking(mut command: Command, descriptors: &'static [i32]) -> Command {
@@ -37,7 +40,7 @@ pub fn non_blocking(mut command: Command, descriptors: &'static [i32]) -> Comman
             }
         }
         // SAFETY: as above.
-        match unsafe { fcntl(OUTPUT, F_SETPIPE_SZ, 4_096) } {
+        match unsafe { fcntl(OUTPUT, F_SETPIPE_SZ, PAGE as i32) } {
             -1 => Err(io::Error::last_os_error()),
             _ => Ok(()),
         }
@@ -55,12 +58,18 @@ fn started(program: &Program, descriptors: &'static [i32]) -> Child {
     ))
 }
 
-/// An input for each program. It fits a pipe, so that nobody waits to write it, and its output does not
-/// fit a page.
-fn cases() -> [(Program, String); 2] {
+/// An input for each program. It fits a pipe, so that nobody waits to write it.
+fn cases() -> [(Program, String); 3] {
     let frames = counted(3_500);
     assert!(frames.len() < 1 << 16);
-    [(RUN, frames), (SHEET, longest())]
+    [(RUN, frames), (SHEET, longest()), (EXPLAIN, longest())]
+}
+
+/// Those with an output that does not fit a page, so that the program waits for its reader: the
+/// line of an explanation always does.
+fn cases_with_long_output() -> impl Iterator<Item = (Program, String)> {
+    let is_long = |(program, input): &(Program, String)| program.whole(input).len() > PAGE;
+    cases().into_iter().filter(is_long)
 }
 
 /// A reader that waits before it begins, and after each piece.
@@ -141,26 +150,29 @@ struct Waiting {
 }
 
 fn waiting() -> Vec<Waiting> {
-    let mut waiting = Vec::new();
-    for for_input in [true, false] {
-        for (program, input) in cases() {
-            let mut child = started(&program, if for_input { &[INPUT] } else { &[OUTPUT] });
-            if for_input {
-                child.collect_through(|output| output);
-                assert!(child.offer(&input.as_bytes()[..1_000]));
-            } else {
-                assert!(child.offer(input.as_bytes()));
-                child.end_input();
-            }
-            waiting.push(Waiting {
-                program,
-                input,
-                child,
-                for_input,
-            });
+    let for_input = cases().into_iter().map(|(program, input)| {
+        let mut child = started(&program, &[INPUT]);
+        child.collect_through(|output| output);
+        assert!(child.offer(&input.as_bytes()[..1_000]));
+        Waiting {
+            program,
+            input,
+            child,
+            for_input: true,
         }
-    }
-    waiting
+    });
+    let for_reader = cases_with_long_output().map(|(program, input)| {
+        let mut child = started(&program, &[OUTPUT]);
+        assert!(child.offer(input.as_bytes()));
+        child.end_input();
+        Waiting {
+            program,
+            input,
+            child,
+            for_input: false,
+        }
+    });
+    for_input.chain(for_reader).collect()
 }
 
 impl Waiting {
@@ -217,7 +229,7 @@ fn stopped_and_continued() {
 /// No room will ever come: the program does not wait for it.
 #[test]
 fn the_reader_goes_away() {
-    for (program, input) in cases() {
+    for (program, input) in cases_with_long_output() {
         for ignored in [false, true] {
             let script = match ignored {
                 false => "exec \"$0\"",

@@ -3,7 +3,7 @@
 
 use super::{counted, file_of, left_out, redirected, shell};
 use crate::child::Child;
-use crate::{RUN, SHEET};
+use crate::{EXPLAIN, PROGRAMS, RUN, SHEET};
 use std::io::{Read, Seek};
 use std::process::Command;
 
@@ -14,7 +14,7 @@ fn no_output_at_all() {
         ("1</dev/null", "Bad file descriptor"),
         (">/dev/full", "No space left on device"),
     ] {
-        for program in [RUN, SHEET] {
+        for program in PROGRAMS {
             for input in program.inputs() {
                 let command = &mut redirected(&program, redirections);
                 let ending = Child::start_on(command, file_of(&input)).ending();
@@ -28,7 +28,14 @@ fn no_output_at_all() {
 /// A file takes as much as the limit allows, also of one write, and then no more.
 #[test]
 fn a_limit_on_the_size_of_files() {
-    for (program, blocks) in [(RUN, 1), (RUN, 64), (RUN, 301), (SHEET, 1), (SHEET, 9)] {
+    for (program, blocks) in [
+        (RUN, 1),
+        (RUN, 64),
+        (RUN, 301),
+        (SHEET, 1),
+        (SHEET, 9),
+        (EXPLAIN, 0),
+    ] {
         let [_, input, _] = program.inputs();
         let most = blocks * 512;
         let script = format!("trap '' XFSZ; ulimit -f {blocks}; exec \"$0\"");
