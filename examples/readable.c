@@ -1,10 +1,10 @@
 /*
- * Shows a recipe, its sheet and the answers to its frames with names and decimal numbers beside the digits.
+ * Shows a recipe, its sheet or why there is none, and the answers to its frames, with names and decimal numbers beside the digits.
  *
- *     readable RECIPE SHEET FRAMES ANSWERS
+ *     readable RECIPE SHEET EXPLANATION FRAMES ANSWERS
  *
- * Four files: what went into the programs sheet and run, and what came out. Where the sheet is a refusal, the ranges of inputs and constants
- * are shown as the recipe declares them.
+ * Five files: what went into the programs sheet, explain and run, and what came out. Where the sheet is a refusal, the ranges of inputs and
+ * constants are shown as the recipe declares them.
  *
  * It trusts nothing in the files. A line may have any bytes and any length: only its first KEPT bytes are kept, read_digits alone takes
  * numbers from them, and print_line alone shows them.
@@ -16,8 +16,8 @@
 
 #include "estrenwind.h"
 
-/* The digits of a recipe's and a sheet's line, an answer and a refusal, without the line feed; and of a frame whose steps are all inputs. */
-enum { RECIPE = EW_RECIPE_LINE - 1, SHEET = EW_SHEET_LINE - 1, ANSWER = 18, REFUSAL = 6, KEPT = EW_MOST_STEPS * EW_FRAME_INPUT };
+/* The digits of a line of each file, without the line feed: a frame's where all steps are inputs. */
+enum { RECIPE = EW_RECIPE_LINE - 1, SHEET = EW_SHEET_LINE - 1, ANSWER = 18, REFUSAL = 6, EXPLANATION = 6, KEPT = EW_MOST_STEPS * EW_FRAME_INPUT };
 
 /* ---- Names ---- */
 
@@ -56,6 +56,26 @@ static const meaning meanings[] = {
     {EW_REFUSED_FRAME_DIGIT, 0, "not a lower-case hexadecimal digit in the frame"},
     {EW_REFUSED_INPUT, 1, "the input is a NaN or outside its range"},
     {EW_REFUSED_ROOM, 0, "the lent memory is too short"},
+};
+
+/* What a reason says; "O" in it stands for the operand. */
+static const struct {
+    unsigned code;
+    const char *words;
+} reasons[] = {
+    {EW_REASON_DIVISOR_HOLDS_ZERO, "the range of O, the divisor, holds zero"},
+    {EW_REASON_DIVIDEND_LOW_INFINITE, "the low end of O, the dividend, is infinite"},
+    {EW_REASON_DIVIDEND_HIGH_INFINITE, "the high end of O, the dividend, is infinite"},
+    {EW_REASON_LROUND_LOW, "lround of the low end of O does not fit 64 bits"},
+    {EW_REASON_LROUND_HIGH, "lround of the high end of O does not fit 64 bits"},
+    {EW_REASON_WHOLE_LOW, "the low end of the answer, whose A is O, does not fit 64 bits"},
+    {EW_REASON_WHOLE_HIGH, "the high end of the answer, whose A is O, does not fit 64 bits"},
+    {EW_REASON_LDEXP_LOW_INFINITE, "the low end of O, which ldexp scales, is infinite"},
+    {EW_REASON_LDEXP_HIGH_INFINITE, "the high end of O, which ldexp scales, is infinite"},
+    {EW_REASON_LDEXP_LOW_OVERFLOWS, "ldexp of the low end of O overflows"},
+    {EW_REASON_LDEXP_HIGH_OVERFLOWS, "ldexp of the high end of O overflows"},
+    {EW_REASON_TOO_BIG_LOW, "the low end of O is over 2^53 in magnitude, and a double may not hold it"},
+    {EW_REASON_TOO_BIG_HIGH, "the high end of O is over 2^53 in magnitude, and a double may not hold it"},
 };
 
 /* ---- Lines ---- */
@@ -204,6 +224,57 @@ static void print_refusal(refusal r, int of_sheet)
     printf(": %s", m->words);
 }
 
+/* ---- Explanations ---- */
+
+/* What a reason says, by its code; NULL where there is no such reason. */
+static const char *reason_of(uint64_t code)
+{
+    size_t i;
+    for (i = 0; i < sizeof reasons / sizeof reasons[0]; i++)
+        if (reasons[i].code == code)
+            return reasons[i].words;
+    return NULL;
+}
+
+/* Prints why the sheet of a recipe is refused with 20 to 22; 0 where the line is no explanation of that. */
+static int print_reason(const line *l, refusal r)
+{
+    uint64_t place, operand, code;
+    const char *words;
+    if (l->length != EXPLANATION || !read_digits(l, 0, 2, &place) || !read_digits(l, 2, 2, &operand) || !read_digits(l, 4, 2, &code))
+        return 0;
+    words = reason_of(code);
+    if (place != r.place || words == NULL)
+        return 0;
+    printf("why: ");
+    print_line(l, EXPLANATION);
+    printf(", ");
+    for (; *words != 0; words++)
+        if (*words == 'O')
+            printf("step %" PRIu64, operand);
+        else
+            putchar(*words);
+    printf("\n");
+    return 1;
+}
+
+/* Prints the explanation's line, after a sheet that is refused or, where r is NULL, is not. */
+static void print_explanation(file explanation, const refusal *r)
+{
+    static line text;
+    refusal same;
+    const int has_line = next_line(explanation, &text);
+    int fits = 0;
+    if (has_line && r == NULL)
+        fits = text.length == 2 && memcmp(text.bytes, "00", 2) == 0;
+    else if (has_line && is_of_step(*r))
+        fits = print_reason(&text, *r);
+    else if (has_line)
+        fits = read_refusal(&text, &same) && same.number == r->number && same.place == r->place;
+    if (!fits)
+        printf("%snot this recipe's explanation\n", r == NULL ? "\n" : "");
+}
+
 /* ---- Steps ---- */
 
 typedef struct {
@@ -254,8 +325,8 @@ static int read_range(const line *l, unsigned number, uint64_t *kind, uint64_t *
 
 /* ---- The two tables ---- */
 
-/* Prints the steps beside their ranges, and notes the kinds of the inputs; how many there are. */
-static unsigned print_steps(file recipe, file sheet, uint64_t kinds[EW_MOST_STEPS])
+/* Prints the steps beside their ranges, or why they have none, and notes the kinds of the inputs; how many there are. */
+static unsigned print_steps(file recipe, file sheet, file explanation, uint64_t kinds[EW_MOST_STEPS])
 {
     static line text, range;
     unsigned number, inputs = 0, strange = 0;
@@ -298,10 +369,14 @@ static unsigned print_steps(file recipe, file sheet, uint64_t kinds[EW_MOST_STEP
         print_line(&range, REFUSAL);
         printf(", ");
         print_refusal(refused, 1);
-        printf("\nThe ranges above are those that the recipe declares; docs/FORMATS.md says what to do about each refusal.\n");
+        printf("\n");
+        print_explanation(explanation, &refused);
+        printf("The ranges above are those that the recipe declares; docs/FORMATS.md says what to do about each refusal and reason.\n");
     } else if (strange != 0 || has_range) {
         printf("\nnot this recipe's sheet, from its line %u on: without it, the ranges above are those that the recipe declares\n",
                strange != 0 ? strange : number + 1);
+    } else {
+        print_explanation(explanation, NULL);
     }
     return inputs;
 }
@@ -373,21 +448,23 @@ static void print_answers(file frames, file answers, const uint64_t kinds[EW_MOS
     }
 }
 
+enum { FILES = 5 };
+
 int main(int count, char **names)
 {
     uint64_t kinds[EW_MOST_STEPS];
-    file files[4];
+    file files[FILES];
     unsigned inputs;
     int i;
-    if (count != 5) {
-        fprintf(stderr, "readable RECIPE SHEET FRAMES ANSWERS\n");
+    if (count != FILES + 1) {
+        fprintf(stderr, "readable RECIPE SHEET EXPLANATION FRAMES ANSWERS\n");
         return 2;
     }
-    for (i = 0; i < 4; i++)
+    for (i = 0; i < FILES; i++)
         files[i] = open_file(names[i + 1]);
-    inputs = print_steps(files[0], files[1], kinds);
-    print_answers(files[2], files[3], kinds, inputs);
-    for (i = 0; i < 4; i++)
+    inputs = print_steps(files[0], files[1], files[2], kinds);
+    print_answers(files[3], files[4], kinds, inputs);
+    for (i = 0; i < FILES; i++)
         fclose(files[i].stream);
     if (fflush(stdout) != 0 || ferror(stdout)) {
         perror("standard output");
