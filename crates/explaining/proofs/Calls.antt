@@ -14,31 +14,28 @@ use Rattle.recipe.specs.Answer.{Says, Holds}
 use Rattle.recipe.proofs.Packed.{holds-words}
 use Rattle.recipe.proofs.Laws.{answer-steps, answer-count, answer-holds, answer-refused}
 use Rattle.semantics.specs.declared.ExplainAnswer.{ExplainAnswer}
-use Rattle.semantics.specs.Range.{Range, Ranged, ranged}
+use Rattle.semantics.specs.Range.{Range, ranged}
 use Rattle.semantics.specs.Range as range
 use Rattle.semantics.specs.Sheet.{stepOn}
 use Rattle.semantics.specs.Explain.{refused, whyOn, onStep, explainFrom, explainSteps, onText, explainOf, answerOf}
 use Rattle.semantics.proofs.Sound.Recipes.{Declared, declared}
-use Rattle.ranges.specs.Carried.{onCarried, folded}
-use Rattle.ranges.proofs.Covering.{Carries, at-step, carries}
-use Rattle.explaining.specs.Packed.{stopped, carriedFrom, explainWords}
+use Rattle.ranges.proofs.Covering.{carried-fold}
+use Rattle.explaining.specs.Packed.{all, stopped, carriedFrom, explainWords}
 
 -- ---- the fold
 
-same-from : (ls : List Step) (k : ℕ) (rs : List Range) → Carries ls rs → carriedFrom ls k rs ≡ explainFrom ls k rs
-unfolding folded onCarried explainFrom onStep
-same-from [] k rs c = refl
-same-from (t ∷ ts) k rs (at-step _ _ _ e more) = rw e (next (stepOn t rs) refl (λ r f. same-from ts (suc k) (rs ++ (r ∷ [])) (more r f)))
-  where
-    next : (x : Ranged) → stepOn t rs ≡ x
-        → ((r : Range) → stepOn t rs ≡ ranged r → carriedFrom ts (suc k) (rs ++ (r ∷ [])) ≡ explainFrom ts (suc k) (rs ++ (r ∷ [])))
-        → onCarried x (stopped k t rs) (λ r. carriedFrom ts (suc k) (rs ++ (r ∷ []))) ≡ onStep x (whyOn k t rs) (λ r. explainFrom ts (suc k) (rs ++ (r ∷ [])))
-    next (ranged r) f more = more r f
-    next (range.refused number) f more = refl
-
 carried-same : (ls : List Step) → Declared ls → carriedFrom ls 0 [] ≡ explainSteps ls
-unfolding explainSteps
-carried-same ls d = same-from ls 0 [] (carries ls d)
+unfolding explainSteps explainFrom onStep
+carried-same = carried-fold all stopped explainFrom done good bad
+  where
+    done : (k : ℕ) (l : List Range) → explainFrom [] k l ≡ all l
+    done k l = refl
+
+    good : (t : Step) (ts : List Step) (k : ℕ) (l : List Range) (r : Range) → stepOn t l ≡ ranged r → explainFrom (t ∷ ts) k l ≡ explainFrom ts (suc k) (l ++ (r ∷ []))
+    good t ts k l r e = ap (λ x. onStep x (whyOn k t l) (λ r. explainFrom ts (suc k) (l ++ (r ∷ [])))) e
+
+    bad : (t : Step) (ts : List Step) (k : ℕ) (l : List Range) (number : ℕ) → stepOn t l ≡ range.refused number → explainFrom (t ∷ ts) k l ≡ stopped k t l number
+    bad t ts k l number e = ap (λ x. onStep x (whyOn k t l) (λ r. explainFrom ts (suc k) (l ++ (r ∷ [])))) e
 
 -- ---- words
 

@@ -23,9 +23,10 @@ use Rattle.semantics.specs.Range.{Range, doubles, wholes, Ranged, ranged}
 use Rattle.semantics.specs.Range as range
 use Rattle.semantics.specs.Frame.{outside}
 use Rattle.semantics.specs.Run.{noValue}
-use Rattle.semantics.specs.Sheet.{noRange, stepOn, onRanged, sheetFrom}
+use Rattle.semantics.specs.Sheet.{passed, noRange, stepOn, onRanged, sheetFrom}
 use Rattle.semantics.specs.Promise.{Lies, Proper}
-use Rattle.ranges.specs.Carried.{number, carriedRange, carried, onCarried, folded, stopped, carriedFrom}
+use Rattle.ranges.specs.Carried.{number, carriedRange, carried, folded, stopped, carriedFrom}
+use Rattle.ranges.proofs.Folding.{step-good, step-bad, steps-done}
 use Rattle.semantics.proofs.Sound.Kept.{Kept, no-or}
 use Rattle.semantics.proofs.Sound.Inputs.{whole-constant}
 use Rattle.semantics.proofs.Sound.Steps.{step-kept}
@@ -87,18 +88,35 @@ carries-from (t ∷ ts) rs d c =
 pub carries : (ls : List Step) → Declared ls → Carries ls []
 carries ls d = carries-from ls [] d (record { values = []; covers = covers-none })
 
--- ---- the sheet
+-- ---- a fold as floats carry it is the fold
 
-same-from : (ls : List Step) (k : ℕ) (rs : List Range) → Carries ls rs → carriedFrom ls k rs ≡ sheetFrom ls k rs
-unfolding folded onCarried sheetFrom onRanged
-same-from [] k rs c = refl
-same-from (t ∷ ts) k rs (at-step _ _ _ e more) = rw e (next (stepOn t rs) refl (λ r f. same-from ts (suc k) (rs ++ (r ∷ [])) (more r f)))
-  where
-    next : (x : Ranged) → stepOn t rs ≡ x
-        → ((r : Range) → stepOn t rs ≡ ranged r → carriedFrom ts (suc k) (rs ++ (r ∷ [])) ≡ sheetFrom ts (suc k) (rs ++ (r ∷ [])))
-        → onCarried x (stopped k t rs) (λ r. carriedFrom ts (suc k) (rs ++ (r ∷ []))) ≡ onRanged x k (λ r. sheetFrom ts (suc k) (rs ++ (r ∷ [])))
-    next (ranged r) f more = more r f
-    next (range.refused number) f more = refl
+-- F is the fold that comes to `all` of the ranges of all steps, or to `stop` at the first step that is refused
+module _ {X : Type 0} (all : List Range → X) (stop : ℕ → Step → List Range → ℕ → X) (F : List Step → ℕ → List Range → X)
+    (done : (k : ℕ) (l : List Range) → F [] k l ≡ all l)
+    (good : (t : Step) (ts : List Step) (k : ℕ) (l : List Range) (r : Range) → stepOn t l ≡ ranged r → F (t ∷ ts) k l ≡ F ts (suc k) (l ++ (r ∷ [])))
+    (bad : (t : Step) (ts : List Step) (k : ℕ) (l : List Range) (number : ℕ) → stepOn t l ≡ range.refused number → F (t ∷ ts) k l ≡ stop k t l number) where
+  fold-from : (ls : List Step) (k : ℕ) (rs : List Range) → Carries ls rs → folded all stop ls k rs ≡ F ls k rs
+  fold-from [] k rs c = steps-done all stop k rs ∙ sym (done k rs)
+  fold-from (t ∷ ts) k rs (at-step _ _ _ e more) = next (stepOn t rs) refl (λ r f. fold-from ts (suc k) (rs ++ (r ∷ [])) (more r f))
+    where
+      next : (x : Ranged) → stepOn t rs ≡ x → ((r : Range) → stepOn t rs ≡ ranged r → folded all stop ts (suc k) (rs ++ (r ∷ [])) ≡ F ts (suc k) (rs ++ (r ∷ [])))
+          → folded all stop (t ∷ ts) k rs ≡ F (t ∷ ts) k rs
+      next (ranged r) f rest = step-good all stop t ts k rs r (e ∙ f) ∙ rest r f ∙ sym (good t ts k rs r f)
+      next (range.refused number) f rest = step-bad all stop t ts k rs number (e ∙ f) ∙ sym (bad t ts k rs number f)
 
+  pub carried-fold : (ls : List Step) → Declared ls → folded all stop ls 0 [] ≡ F ls 0 []
+  carried-fold ls d = fold-from ls 0 [] (carries ls d)
+
+-- the sheet
 pub carried-same : (ls : List Step) → Declared ls → carriedFrom ls 0 [] ≡ sheetFrom ls 0 []
-carried-same ls d = same-from ls 0 [] (carries ls d)
+unfolding sheetFrom onRanged
+carried-same = carried-fold passed stopped sheetFrom done good bad
+  where
+    done : (k : ℕ) (l : List Range) → sheetFrom [] k l ≡ passed l
+    done k l = refl
+
+    good : (t : Step) (ts : List Step) (k : ℕ) (l : List Range) (r : Range) → stepOn t l ≡ ranged r → sheetFrom (t ∷ ts) k l ≡ sheetFrom ts (suc k) (l ++ (r ∷ []))
+    good t ts k l r e = ap (λ x. onRanged x k (λ r. sheetFrom ts (suc k) (l ++ (r ∷ [])))) e
+
+    bad : (t : Step) (ts : List Step) (k : ℕ) (l : List Range) (number : ℕ) → stepOn t l ≡ range.refused number → sheetFrom (t ∷ ts) k l ≡ stopped k t l number
+    bad t ts k l number e = ap (λ x. onRanged x k (λ r. sheetFrom ts (suc k) (l ++ (r ∷ [])))) e

@@ -32,17 +32,17 @@ start = Wholes (record { low = pos 0; high = pos 0 })
 module _ {X : Type 0} (all : List range.Range → X) (stop : ℕ → Step → List range.Range → ℕ → X) where
   -- ---- one step of the fold
 
-  step-good : (t : Step) (ts : List Step) (k : ℕ) (l : List range.Range) (r : range.Range) → carried (stepOn t l) ≡ range.ranged r
+  pub step-good : (t : Step) (ts : List Step) (k : ℕ) (l : List range.Range) (r : range.Range) → carried (stepOn t l) ≡ range.ranged r
       → folded all stop (t ∷ ts) k l ≡ folded all stop ts (suc k) (l ++ (r ∷ []))
   unfolding folded onCarried
   step-good t ts k l r e = ap (λ x. onCarried x (stop k t l) (λ r. folded all stop ts (suc k) (l ++ (r ∷ [])))) e
 
-  step-bad : (t : Step) (ts : List Step) (k : ℕ) (l : List range.Range) (number : ℕ) → carried (stepOn t l) ≡ range.refused number
+  pub step-bad : (t : Step) (ts : List Step) (k : ℕ) (l : List range.Range) (number : ℕ) → carried (stepOn t l) ≡ range.refused number
       → folded all stop (t ∷ ts) k l ≡ stop k t l number
   unfolding folded onCarried
   step-bad t ts k l number e = ap (λ x. onCarried x (stop k t l) (λ r. folded all stop ts (suc k) (l ++ (r ∷ [])))) e
 
-  steps-done : (k : ℕ) (l : List range.Range) → folded all stop [] k l ≡ all l
+  pub steps-done : (k : ℕ) (l : List range.Range) → folded all stop [] k l ≡ all l
   unfolding folded
   steps-done k l = refl
 

@@ -10,7 +10,6 @@ use Rattle.hex.specs.Hex.{digits}
 use Rattle.hex.proofs.Digits.{length-digits}
 use Rattle.hex.proofs.Parts.{put, set-next, put-next, length-put}
 use Rattle.recipe.specs.Table.{kindNumber}
-use Rattle.recipe.specs.Text.{first}
 use Rattle.ranges.specs.declared.Range.{Range}
 use Rattle.semantics.specs.Range.{kindOf, lowWord, highWord}
 use Rattle.semantics.specs.Range as range
