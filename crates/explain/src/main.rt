@@ -4,18 +4,14 @@
 //
 // No more than 4,993 bytes are read: a text that long is refused by its length, however it goes on.
 use programs::LOOKED_AT;
-
-// Says why standard output could not be written.
-fn tell_written() {
-    os::fail(b"explain: the explanation is incomplete: cannot write standard output");
-}
+use stream::LINE;
 
 fn main() {
     if stdio::refuses_arguments(b"usage: explain <recipe >explanation (no argument is taken)\n") {
         return;
     }
     let mut text = [0u8; LOOKED_AT];
-    let mut output = [0u8; 19];
+    let mut output = [0u8; LINE];
     let got = stdio::read_full(&mut text);
     if got.failed {
         os::fail(b"explain: no explanation is written: cannot read standard input");
@@ -23,11 +19,7 @@ fn main() {
     }
     let n = got.count;
     let size = stream::write_explanation(&text[..n], &mut output);
-    if !stdio::write(&output[..size]) {
-        tell_written();
-        return;
-    }
-    if !stdio::close() {
-        tell_written();
+    if !stdio::write_last(&output[..size]) {
+        os::fail(b"explain: the explanation is incomplete: cannot write standard output");
     }
 }

@@ -70,11 +70,7 @@ fn main() {
         }
     }
     let put = finish(state, &buffer, &mut steps, &mut output);
-    if !stdio::write(&output[..put]) {
-        tell_written();
-        return;
-    }
-    if !stdio::close() {
+    if !stdio::write_last(&output[..put]) {
         tell_written();
     }
 }

@@ -5,11 +5,6 @@
 use programs::LOOKED_AT;
 use semantics::LONGEST_SHEET;
 
-// Says why standard output could not be written.
-fn tell_written() {
-    os::fail(b"sheet: the sheet is incomplete: cannot write standard output");
-}
-
 fn main() {
     if stdio::refuses_arguments(b"usage: sheet <recipe >sheet (no argument is taken)\n") {
         return;
@@ -23,11 +18,7 @@ fn main() {
     }
     let n = got.count;
     let size = stream::write_sheet(&text[..n], &mut output);
-    if !stdio::write(&output[..size]) {
-        tell_written();
-        return;
-    }
-    if !stdio::close() {
-        tell_written();
+    if !stdio::write_last(&output[..size]) {
+        os::fail(b"sheet: the sheet is incomplete: cannot write standard output");
     }
 }

@@ -101,7 +101,7 @@ pub fn write(bytes: &[u8]) -> bool {
 
 // Closes standard output, and answers whether all that was written to it has arrived: a file system over a network may say only here that it has
 // no room. One that was closed from the start, and to which nothing was written, is no failure.
-pub fn close() -> bool {
+fn close() -> bool {
     if libc::close(libc::STDOUT_FILENO) == 0 {
         return true;
     }
@@ -110,6 +110,14 @@ pub fn close() -> bool {
         return true;
     }
     error == libc::EBADF
+}
+
+// Writes the last of the output, closes it, and answers whether all has arrived.
+pub fn write_last(bytes: &[u8]) -> bool {
+    if !write(bytes) {
+        return false;
+    }
+    close()
 }
 
 // Whether the program was started with an argument, of which none of ours takes any: then its line of usage goes to standard error.

@@ -13,7 +13,7 @@ use running::run_recipe;
 use semantics::RunAnswer;
 
 // The bytes of the longest line, with its line feed.
-pub(crate) const LINE: usize = 19;
+pub const LINE: usize = 19;
 
 // Writes a line of three fields, 2 digits each, at the start of out, and answers its length.
 pub(crate) fn fields_line(x: u64, y: u64, z: u64, out: &mut [u8]) -> usize

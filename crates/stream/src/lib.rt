@@ -26,6 +26,7 @@ mod frames;
 mod head;
 mod sheet;
 
+pub use answer::LINE;
 pub use explain::write_explanation;
 pub use sheet::write_sheet;
 

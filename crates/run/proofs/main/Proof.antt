@@ -175,11 +175,11 @@ finish-requires c κs =
 array-share-prefix-output-2 : tie.Need-array-share-prefix-output-2 Inv-loop μ-loop
 array-share-prefix-output-2 c = search needs
 
-slice-aggregate-write-2 : tie.Need-slice-aggregate-write-2 Inv-loop μ-loop
-slice-aggregate-write-2 c = sym (length-take-le (c .before .before .before .finish .result) _ (omega (arith, c .before .before .before .finish .ensures .0)))
+slice-aggregate-write-last : tie.Need-slice-aggregate-write-last Inv-loop μ-loop
+slice-aggregate-write-last c = sym (length-take-le (c .before .before .before .finish .result) _ (omega (arith, c .before .before .before .finish .ensures .0)))
 
-write-requires-2 : tie.Need-write-requires-2 Inv-loop μ-loop
-write-requires-2 c κs = search needs
+write-last-requires : tie.Need-write-last-requires Inv-loop μ-loop
+write-last-requires c κs = search needs
 
 tell-written-requires-2 : tie.Need-tell-written-requires-2 Inv-loop μ-loop
 tell-written-requires-2 c κs = search needs
@@ -187,17 +187,8 @@ tell-written-requires-2 c κs = search needs
 returns-4 : tie.Need-returns-4 Inv-loop μ-loop
 returns-4 c = search needs
 
-close-requires : tie.Need-close-requires Inv-loop μ-loop
-close-requires c κs = search needs
-
-tell-written-requires-3 : tie.Need-tell-written-requires-3 Inv-loop μ-loop
-tell-written-requires-3 c κs = search needs
-
 returns-5 : tie.Need-returns-5 Inv-loop μ-loop
 returns-5 c = search needs
-
-returns-6 : tie.Need-returns-6 Inv-loop μ-loop
-returns-6 c = search needs
 
 pub main-spec : {M : Type 1} → statement M
 main-spec =
@@ -240,11 +231,8 @@ main-spec =
     slice-aggregate-finish-3
     finish-requires
     array-share-prefix-output-2
-    slice-aggregate-write-2
-    write-requires-2
+    slice-aggregate-write-last
+    write-last-requires
     tell-written-requires-2
     returns-4
-    close-requires
-    tell-written-requires-3
-    returns-5
-    returns-6)
+    returns-5)

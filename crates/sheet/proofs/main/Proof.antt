@@ -45,29 +45,23 @@ write-sheet-requires c κs = search needs
 array-share-prefix-output : tie.Need-array-share-prefix-output
 array-share-prefix-output c = search needs
 
-slice-aggregate-write : tie.Need-slice-aggregate-write
-slice-aggregate-write c = sym (length-take-le (c .before .before .write-sheet .result) _ (omega (arith, c .before .before .write-sheet .ensures .0)))
+slice-aggregate-write-last : tie.Need-slice-aggregate-write-last
+slice-aggregate-write-last c = sym (length-take-le (c .before .before .write-sheet .result) _ (omega (arith, c .before .before .write-sheet .ensures .0)))
 
-write-requires : tie.Need-write-requires
-write-requires c κs = search needs
+write-last-requires : tie.Need-write-last-requires
+write-last-requires c κs = search needs
 
-tell-written-requires : tie.Need-tell-written-requires
-tell-written-requires c κs = search needs
+slice-aggregate-fail-2 : tie.Need-slice-aggregate-fail-2
+slice-aggregate-fail-2 c = search needs
+
+fail-requires-2 : tie.Need-fail-requires-2
+fail-requires-2 c κs = search needs
 
 returns-3 : tie.Need-returns-3
 returns-3 c = search needs
 
-close-requires : tie.Need-close-requires
-close-requires c κs = search needs
-
-tell-written-requires-2 : tie.Need-tell-written-requires-2
-tell-written-requires-2 c κs = search needs
-
 returns-4 : tie.Need-returns-4
 returns-4 c = search needs
-
-returns-5 : tie.Need-returns-5
-returns-5 c = search needs
 
 pub main-spec : {M : Type 1} → statement M
 main-spec =
@@ -86,11 +80,9 @@ main-spec =
     slice-aggregate-write-sheet-2
     write-sheet-requires
     array-share-prefix-output
-    slice-aggregate-write
-    write-requires
-    tell-written-requires
+    slice-aggregate-write-last
+    write-last-requires
+    slice-aggregate-fail-2
+    fail-requires-2
     returns-3
-    close-requires
-    tell-written-requires-2
-    returns-4
-    returns-5)
+    returns-4)
