@@ -11,6 +11,7 @@ pub mod calls;
 pub mod comparison;
 pub mod faults;
 pub mod growing;
+pub mod limits;
 pub mod reasons;
 pub mod values;
 pub mod walks;

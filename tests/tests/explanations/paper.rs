@@ -2,17 +2,9 @@
 
 use estrenwind_tests::library::ExplainAnswer;
 use estrenwind_tests::recipes::comparison::check;
+use estrenwind_tests::recipes::limits::{INF, LEAST, MAX, MOST, TINY, TWO_53, TWO_62, TWO_63};
 use estrenwind_tests::recipes::{Draft, Ends, ExplainCall, Line};
 use estrenwind_tests::reference::recipe::Way;
-
-const TINY: f64 = f64::from_bits(1);
-const INF: f64 = f64::INFINITY;
-const MAX: f64 = f64::MAX;
-const LEAST: i64 = i64::MIN;
-const MOST: i64 = i64::MAX;
-const TWO_53: i64 = 1 << 53;
-const TWO_62: i64 = 1 << 62;
-const TWO_63: f64 = 9_223_372_036_854_775_808.0;
 
 /// Of a passed recipe: its reason is 00, and there is no step.
 const PASSED: u64 = 0x00;

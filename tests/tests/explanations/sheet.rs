@@ -5,6 +5,7 @@ use crate::agreement;
 use estrenwind_tests::comparison::on_all_cores;
 use estrenwind_tests::library::{self, ExplainAnswer, SheetAnswer};
 use estrenwind_tests::patterns::Random;
+use estrenwind_tests::recipes::limits::{TWO_53, TWO_63};
 use estrenwind_tests::recipes::walks::bytes;
 use estrenwind_tests::recipes::{Call, ExplainCall, SheetCall};
 use std::collections::BTreeMap;
@@ -16,9 +17,6 @@ const RECIPE_LINE: usize = 39;
 const SHEET_LINE: usize = 37;
 /// Enough for every sheet.
 const ROOM: usize = 128 * SHEET_LINE;
-
-const TWO_53: u64 = 1 << 53;
-const TWO_63: f64 = 9_223_372_036_854_775_808.0;
 
 /// The number that stands in these columns of a line.
 fn number(line: &[u8], columns: std::ops::Range<usize>) -> u64 {
@@ -60,8 +58,8 @@ fn is_true(opcode: u64, code: u64, [a_low, a_high]: [u64; 2], [b_low, b_high]: [
             let power = if double(a_high) > 0.0 { b_high } else { b_low };
             overflows(double(a_high), whole(power))
         }
-        (0x32, 0x0c) => whole(a_low).unsigned_abs() > TWO_53,
-        (0x32, 0x0d) => whole(a_high).unsigned_abs() > TWO_53,
+        (0x32, 0x0c) => whole(a_low).unsigned_abs() > TWO_53 as u64,
+        (0x32, 0x0d) => whole(a_high).unsigned_abs() > TWO_53 as u64,
         _ => panic!("{code:x} is no reason for {opcode:x}"),
     }
 }

@@ -6,6 +6,7 @@
 use crate::BEFORE;
 use estrenwind_tests::library::SheetAnswer;
 use estrenwind_tests::recipes::comparison::check;
+use estrenwind_tests::recipes::limits::{INF, LEAST, MAX, MOST, TINY, TWO_53, TWO_63};
 use estrenwind_tests::recipes::{Draft, Ends, Line};
 use estrenwind_tests::reference::recipe::{Kind, Way};
 
@@ -13,13 +14,6 @@ use estrenwind_tests::reference::recipe::{Kind, Way};
 const BELOW: f64 = 1.0 - f64::EPSILON / 2.0;
 /// The number after 1.
 const ABOVE: f64 = 1.0 + f64::EPSILON;
-const TINY: f64 = f64::from_bits(1);
-const INF: f64 = f64::INFINITY;
-const MAX: f64 = f64::MAX;
-const LEAST: i64 = i64::MIN;
-const MOST: i64 = i64::MAX;
-const TWO_53: i64 = 1 << 53;
-const TWO_63: f64 = 9_223_372_036_854_775_808.0;
 
 #[track_caller]
 fn shows<R: Ends>(opcode: u8, inputs: &[Line], expected: Result<R, u64>) {
