@@ -50,15 +50,16 @@ typedef struct {
     operands32 floats, wide;
 } data_set;
 
-enum { TEXTURE, MIXED, SUBNORMAL, SPECIAL, FAR, TINY, HALF_NORMAL, HALF_SUBNORMAL, HALF_ANY, SETS };
+enum { TEXTURE, MIXED, SUBNORMAL, SPECIAL, FAR, TO_SUBNORMAL, TO_NORMAL, HALF_NORMAL, HALF_SUBNORMAL, HALF_ANY, SETS };
 
 static data_set sets[SETS] = {
     {.name = "texture-like: x in -4096 to 4096, with fractions; y in 0.5 to 64; n in -16 to 16"},
     {.name = "mixed magnitudes: half of them about where rounding happens, a quarter smaller, a quarter larger; any n that reaches"},
-    {.name = "subnormal; n in -16 to 16"},
+    {.name = "subnormal x and y, of every size alike; n to a subnormal number"},
     {.name = "texture-like, one in ten infinite or NaN"},
     {.name = "exponents far apart: x in the top quarter of the exponents, y in the lowest"},
-    {.name = "texture-like x, subnormal y"},
+    {.name = "texture-like x; subnormal y, of every size alike; n to a subnormal number"},
+    {.name = "subnormal x, of every size alike; n to a normal number"},
     {.name = "normal halves; floats that become such"},
     {.name = "subnormal halves; floats that become such"},
     {.name = "any 16 bits; any 32 bits"},
@@ -109,6 +110,29 @@ static void put_special(operands64 *f64, operands32 *f32, int i)
     }
 }
 
+/* Subnormal numbers of every size alike: their leading one stands at any place of the fraction as often as at any other. */
+static uint64_t random_below(int places)
+{
+    const uint64_t leading = (uint64_t)1 << random_bits() % (uint64_t)places;
+    return leading | (random_bits() & (leading - 1));
+}
+
+static void put_subnormal(operands64 *f64, operands32 *f32, int i)
+{
+    const uint64_t r = random_bits();
+    f64->bits[i] = (r & 0x8000000000000000u) | random_below(52);
+    f32->bits[i] = (uint32_t)(r >> 32 & 0x80000000u) | (uint32_t)random_below(23);
+}
+
+/* The n that takes x's leading one to a place above that of the smallest subnormal number. */
+static void put_scale(data_set *set, int i, int place64, int place32)
+{
+    set->n64[i] = place64 - 1074 - ilogb(set->x64.values[i]);
+    set->n32[i] = place32 - 149 - ilogbf(set->x32.values[i]);
+}
+
+static void put_scale_to_subnormal(data_set *set, int i) { put_scale(set, i, (int)(random_bits() % 52), (int)(random_bits() % 23)); }
+
 /* Patterns with this exponent field and random signs and fractions. */
 static uint16_t half_of(uint64_t e) { return (uint16_t)((random_bits() & 0x83ff) | e << 10); }
 static uint32_t float_of(uint64_t e) { return (uint32_t)((random_bits() & 0x807fffff) | e << 23); }
@@ -137,8 +161,9 @@ static void fill(void)
         set->n64[i] = (int)(random_bits() % 4200) - 2100;
         set->n32[i] = (int)(random_bits() % 600) - 300;
         set = &sets[SUBNORMAL];
-        put(&set->x64, &set->x32, i, 0, 0);
-        put(&set->y64, &set->y32, i, 0, 0);
+        put_subnormal(&set->x64, &set->x32, i);
+        put_subnormal(&set->y64, &set->y32, i);
+        put_scale_to_subnormal(set, i);
         set = &sets[SPECIAL];
         if (random_bits() % 10 == 0)
             put_special(&set->x64, &set->x32, i);
@@ -147,8 +172,13 @@ static void fill(void)
         set = &sets[FAR];
         put(&set->x64, &set->x32, i, 1535 + random_bits() % 512, (uint32_t)(191 + random_bits() % 64));
         put(&set->y64, &set->y32, i, 1 + random_bits() % 511, (uint32_t)(1 + random_bits() % 63));
-        set = &sets[TINY];
-        put(&set->y64, &set->y32, i, 0, 0);
+        set = &sets[TO_SUBNORMAL];
+        put_subnormal(&set->y64, &set->y32, i);
+        put_scale_to_subnormal(set, i);
+        /* From 2^-4 to 2^12. */
+        set = &sets[TO_NORMAL];
+        put_subnormal(&set->x64, &set->x32, i);
+        put_scale(set, i, (int)(1070 + random_bits() % 16), (int)(145 + random_bits() % 16));
     }
     /* Floats from 2^-14 to 2^15, and from 2^-24 to 2^-14. */
     for (i = 0; i < COUNT; i++) {
@@ -323,7 +353,7 @@ typedef struct {
 } measure;
 
 /* What is asked: at most `limit` times glibc's time on texture-like data, `mixed` times each library's on mixed data, `far` times
-   glibc's on the sets after SPECIAL, and musl's time at least `lead` times ours. 0 asks nothing. */
+   glibc's where exponents lie far apart, and musl's time at least `lead` times ours. 0 asks nothing. */
 static struct {
     const char *name;
     int width;
@@ -353,12 +383,35 @@ static struct {
 
 enum { ROWS = sizeof rows / sizeof rows[0] };
 
-/* The sets after SPECIAL are for remainders alone, and the last three for halves. */
+/* What is asked on subnormal numbers, at both widths: at most `limit` times glibc's time, and at most `normal` times our own on
+   texture-like data (0: nothing). */
+static const struct {
+    const char *name, *what;
+    int set;
+    double limit, normal;
+} subnormals[] = {
+    {"frexp", "subnormal", SUBNORMAL, 0.7, 1.6},
+    {"ldexp", "subnormal in", TO_NORMAL, 0.6, 1.6},
+    {"ldexp", "subnormal out", TO_SUBNORMAL, 0.6, 1.6},
+    {"ldexp", "both subnormal", SUBNORMAL, 0.6, 1.6},
+    {"fmod", "subnormal divisor", TO_SUBNORMAL, 0.15, 0},
+    {"fmod", "both subnormal", SUBNORMAL, 0.15, 0},
+};
+
+enum { SUBNORMALS = sizeof subnormals / sizeof subnormals[0] };
+
+/* Every function takes the sets up to SPECIAL; a remainder FAR; and the last three are for halves. */
 static int takes(int row, int set)
 {
+    int s;
     if (rows[row].width == 16 || set >= HALF_NORMAL)
         return rows[row].width == 16 && set >= HALF_NORMAL;
-    return set <= SPECIAL || rows[row].far != 0;
+    if (set <= SPECIAL || (set == FAR && rows[row].far != 0))
+        return 1;
+    for (s = 0; s < SUBNORMALS; s++)
+        if (subnormals[s].set == set && strcmp(subnormals[s].name, rows[row].name) == 0)
+            return 1;
+    return 0;
 }
 
 /* ---- measuring ---- */
@@ -540,8 +593,8 @@ static int print_targets(void)
 {
     int r, missed_rows = 0;
     printf("\ntargets, medians in this run\n");
-    printf("%-14s  %14s  %14s  %14s  %14s  %14s  %14s  %14s\n", "", "texture/glibc", "musl/texture", "mixed/glibc", "mixed/musl",
-           "mixed/newlib", "far/glibc", "tiny y/glibc");
+    printf("%-14s  %14s  %14s  %14s  %14s  %14s  %14s\n", "", "texture/glibc", "musl/texture", "mixed/glibc", "mixed/musl",
+           "mixed/newlib", "far/glibc");
     for (r = 0; r < ROWS; r++) {
         const double musl = figures_of(r, TEXTURE).medians[MUSL];
         int missed = 0;
@@ -554,13 +607,32 @@ static int print_targets(void)
         missed |= hold_ratio(r, MIXED, MUSL, rows[r].mixed);
         missed |= hold_ratio(r, MIXED, NEWLIB, rows[r].mixed);
         missed |= hold_ratio(r, FAR, GLIBC, rows[r].far);
-        missed |= hold_ratio(r, TINY, GLIBC, rows[r].far);
         printf("  %s", missed ? "MISSED" : "target met");
         if (musl < fastest * rows[r].lead)
             printf(" (musl's %.2f ns: even the identity call is not %g times as fast)", musl, rows[r].lead);
         putchar('\n');
         missed_rows += missed;
     }
+    return missed_rows;
+}
+
+static int print_subnormal_targets(void)
+{
+    int s, r, missed_rows = 0;
+    printf("\n%-28s  %14s  %14s\n", "", "/glibc", "/texture");
+    for (s = 0; s < SUBNORMALS; s++)
+        for (r = 0; r < ROWS; r++) {
+            const int set = subnormals[s].set;
+            int missed;
+            if (rows[r].width == 16 || strcmp(rows[r].name, subnormals[s].name) != 0)
+                continue;
+            printf("f%d %-5s %-18s", rows[r].width, rows[r].name, subnormals[s].what);
+            missed = hold_ratio(r, set, GLIBC, subnormals[s].limit);
+            missed |= hold(subnormals[s].normal == 0 ? NAN : figures_of(r, set).medians[OURS] / figures_of(r, TEXTURE).medians[OURS], "<=",
+                           subnormals[s].normal);
+            printf("  %s\n", missed ? "MISSED" : "target met");
+            missed_rows += missed;
+        }
     return missed_rows;
 }
 
@@ -625,10 +697,11 @@ int main(void)
     for (i = HALF_NORMAL; i < SETS; i++)
         print_set(i, 16);
     missed = print_targets();
+    missed += print_subnormal_targets();
     missed += print_half_targets();
     if (too_few())
         printf("\nThe machine was too busy: some figures stand on fewer than %d quiet repetitions. Run again when it is quiet.\n",
                ENOUGH);
-    printf("\n%d of %d rows meet their targets\n", ROWS - missed, ROWS);
+    printf("\n%d of %d rows meet their targets\n", ROWS + 2 * SUBNORMALS - missed, ROWS + 2 * SUBNORMALS);
     return 0;
 }

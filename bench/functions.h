@@ -1,7 +1,7 @@
 /*
  * The functions that are timed, one row each: its shape, its name, and the most that it may take as a multiple of glibc's time on
  * texture-like data. Then, of a rounding, the least factor by which it must be faster than musl's (0: nothing is asked), and, of
- * a remainder, the multiple allowed where the exponents lie far apart and where the divisor is subnormal, in f64.
+ * a remainder, the multiple allowed where the exponents lie far apart, in f64. bench.c says what is asked on subnormal numbers.
  *
  * The shapes, which bench.c has loops for: WORD, a pattern to a pattern; WHOLE, to a whole number; PARTS, to two patterns; FREXP, to a
  * pattern and an exponent; SCALE, a pattern and a number to a pattern that may be refused; REMAINDER and STEP, two patterns to such a

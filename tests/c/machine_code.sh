@@ -1,7 +1,7 @@
 #!/bin/sh
 # Reads the machine code of the library's functions, whatever the compiler made of the source: none may touch a floating-point
-# register, none but fmod may divide, and none may call or jump to another but fmod, which recipes share, and ldexp, whose rare
-# cases are a function of their own. The library as a whole keeps no state and asks for nothing but what moves memory.
+# register, none but fmod may divide, and none may call or jump to another but fmod, which recipes share. frexp and ldexp bring a subnormal
+# number to its leading one by one count, without a loop. The library as a whole keeps no state and asks for nothing but what moves memory.
 # machine_code.sh LIBRARY
 set -eu
 library=$1
@@ -10,6 +10,34 @@ floating='%[xyz]mm|[[:space:]]f[a-z]+[[:space:]]+%?st'
 divides='[[:space:]]i?div[a-z]*[[:space:]]'
 # A call, or a jump out of the function, has a relocation of the kind PLT32.
 calls='[[:space:]]call[a-z]*[[:space:]]|R_X86_64_PLT32'
+count='[[:space:]](bsr|lzcnt)[a-z]*[[:space:]]'
+# How many of a function's instructions can be reached again from themselves.
+in_loops() {
+    awk 'function value(digits,  i, v) {
+            for (i = 1; i <= length(digits); i++)
+                v = 16 * v + index("0123456789abcdef", substr(digits, i, 1)) - 1
+            return v
+        }
+        function reaches(i, goal) {
+            if (seen[i]++)
+                return i == goal
+            if (operation[i] ~ /^j/ && reaches(place[target[i]], goal))
+                return 1
+            return operation[i] !~ /^(ret|jmp)/ && i < n && reaches(i + 1, goal)
+        }
+        $1 ~ /^[0-9a-f]+:$/ && $2 !~ /^R_/ {
+            operation[++n] = $2
+            target[n] = value($3)
+            place[value(substr($1, 1, length($1) - 1))] = n
+        }
+        END {
+            for (i = 1; i <= n; i++) {
+                split("", seen)
+                loops += reaches(i, i)
+            }
+            print loops + 0
+        }'
+}
 # Each at two widths; halves have the roundings and two conversions.
 symbols=
 for name in $functions; do
@@ -22,7 +50,6 @@ checked=0
 for symbol in $symbols; do
     case $symbol in
     ew_fmod_*) wrong="$floating" ;;
-    ew_ldexp_*) wrong="$floating|$divides" ;;
     *) wrong="$floating|$divides|$calls" ;;
     esac
     code=$(objdump -dr --no-show-raw-insn --disassemble="$symbol" "$library" | sed -n "/<$symbol>:/,\$p")
@@ -34,6 +61,16 @@ for symbol in $symbols; do
         echo "$symbol: the lines above should not be there" >&2
         exit 1
     fi
+    case $symbol in
+    ew_frexp_* | ew_ldexp_*)
+        counts=$(echo "$code" | grep -cE "$count" || true)
+        loops=$(echo "$code" | in_loops)
+        if [ "$counts" != 1 ] || [ "$loops" != 0 ]; then
+            echo "$symbol counts leading zeros $counts times, and $loops of its instructions stand in a loop" >&2
+            exit 1
+        fi
+        ;;
+    esac
     checked=$((checked + 1))
 done
 writable=$(objdump -h "$library" | awk '$2 ~ /^\.t?(data|bss)/ && $2 !~ /^\.data\.rel\.ro/ && $3 !~ /^0+$/ { print $2 }')
@@ -46,4 +83,4 @@ if [ -n "$outside" ]; then
     echo "$library asks for $outside" >&2
     exit 1
 fi
-echo "$checked functions touch no floating-point register; but for fmod none divides, but for fmod and ldexp none calls another; no state"
+echo "$checked functions touch no floating-point register; but for fmod none divides or calls another; one count and no loop in frexp and ldexp; no state"

@@ -3,12 +3,13 @@
 use mathlib.Core.Path.{_≡_, refl, sym, ap, _∙_}
 use mathlib.Core.Logic.{_⊎_, inl, inr, ⊎-elim}
 use Prim.Native.Nat.{ℕ, suc, _+_, _-_, _*_, _^_, _≤_, _<_}
-use native.Mathlib.Nat.{mul-assoc, mul-le-mul-left, mul-le-mul-right, mul-lt-mul-of-pos-right, lt-of-not-le}
+use native.Mathlib.Nat.{le-antisymm, pow-suc, mul-assoc, mul-le-mul-left, mul-le-mul-right, mul-lt-mul-of-pos-right, lt-of-not-le}
 use native.Mathlib.Omega.{arith}
+use borrow.Author.Needs.{needs}
 use lib.Count.{leadingZeros, leading-top}
 use lib.Pow.{pow-pos, pow-mono, pow-add}
-use Rattle.float_format.specs.Format.{Format, signBit, topField, infinity}
-use Rattle.float_format.specs.Number.{encode, bias}
+use Rattle.float_format.specs.Format.{Format, binary64, binary32, binary16, signBit, topField, infinity}
+use Rattle.float_format.specs.Number.{encode, bias, leadingShift}
 use Rattle.float_format.specs.Width.{InWord}
 use Rattle.float_format.proofs.Units.{lt-or-ge, encode-at, encode-low}
 use Rattle.float_format.proofs.Integral.{room}
@@ -39,6 +40,33 @@ lead F m z narrow some few e = found (leading-top 64 m some (omega (arith, pow-m
           from = rw r (omega (arith, lo, whole));
           below = rw r (omega (arith, hi, whole, mul-assoc 2 (2 ^ j) (2 ^ (F - j))));
         }
+
+-- W-207: the shift that the code takes brings the fraction m of a subnormal number to at least 2^F and below 2^(F + 1).
+pub subnormal-shift : (f : Format) (m : ℕ) → InWord f → 0 < m → m < 2 ^ f .fraction
+    → (2 ^ f .fraction ≤ m * 2 ^ leadingShift (f .fraction) m) × (m * 2 ^ leadingShift (f .fraction) m < 2 ^ suc (f .fraction))
+subnormal-shift f m w some low =
+    let l : Lead (f .fraction) m (leadingZeros 64 m) = lead (f .fraction) m (leadingZeros 64 m) (sizes f w .fraction-lt) some (omega arith) refl in
+    (l .from, omega (arith, l .below))
+
+-- at each width: 2^52 and 2^53, 2^23 and 2^24, 2^10 and 2^11
+pub subnormal-shift-64 : (m : ℕ) → 0 < m → m < 2 ^ 52 → (2 ^ 52 ≤ m * 2 ^ leadingShift 52 m) × (m * 2 ^ leadingShift 52 m < 2 ^ 53)
+subnormal-shift-64 m = subnormal-shift binary64 m (search needs)
+
+pub subnormal-shift-32 : (m : ℕ) → 0 < m → m < 2 ^ 23 → (2 ^ 23 ≤ m * 2 ^ leadingShift 23 m) × (m * 2 ^ leadingShift 23 m < 2 ^ 24)
+subnormal-shift-32 m = subnormal-shift binary32 m (search needs)
+
+pub subnormal-shift-16 : (m : ℕ) → 0 < m → m < 2 ^ 10 → (2 ^ 10 ≤ m * 2 ^ leadingShift 10 m) × (m * 2 ^ leadingShift 10 m < 2 ^ 11)
+subnormal-shift-16 m = subnormal-shift binary16 m (search needs)
+
+-- No other shift does.
+pub only-shift : (F m j k : ℕ) → 2 ^ F ≤ m * 2 ^ j → m * 2 ^ j < 2 ^ suc F → 2 ^ F ≤ m * 2 ^ k → m * 2 ^ k < 2 ^ suc F → j ≡ k
+only-shift F m j k jl jb kl kb = le-antisymm (least k j kl jb) (least j k jl kb)
+  where
+    -- a longer shift would be at least twice as much
+    least : (a b : ℕ) → 2 ^ F ≤ m * 2 ^ a → m * 2 ^ b < 2 ^ suc F → b ≤ a
+    least a b lo hi =
+        let twice : m * 2 ^ suc a ≡ m * 2 ^ a * 2 = ap (λ (n : ℕ). m * n) (pow-suc 2 a) ∙ sym (mul-assoc m (2 ^ a) 2) in
+        ⊎-elim (λ l. absurd (omega (arith, lo, hi, twice, mul-le-mul-left m (pow-mono {i = suc a} {j = b} l)))) (λ g. g) (lt-or-ge a b)
 
 -- ---- the pattern
 

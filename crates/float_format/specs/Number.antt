@@ -3,6 +3,7 @@
 -- beyond every finite number. Definitions only; assumes nothing.
 use mathlib.Core.Bool.{Bool, cond}
 use Prim.Native.Nat.{ℕ, suc, _+_, _-_, _*_, _/_, _%_, _^_, _≤_}
+use lib.Count.{leadingZeros}
 use lib.Dec.{ltb, eqb}
 use lib.Ieee.{size}
 use Rattle.float_format.specs.Format.{Format, signBit, negative, unsigned}
@@ -24,6 +25,10 @@ bias f = 2 ^ (f .exponent - 1) - 1
 
 abbrev pub one : Format → ℕ
 one f = 2 ^ (bias f + f .fraction - 1)
+
+-- how far m's leading one stands below the place of a normal number's, F being the fraction bits: by m's leading zeros in a word
+abbrev pub leadingShift : ℕ → ℕ → ℕ
+leadingShift F m = leadingZeros 64 m - (63 - F)
 
 -- the units of a pattern, without its sign
 abbrev pub unitsOf : Format → ℕ → ℕ

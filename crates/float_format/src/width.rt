@@ -4,7 +4,7 @@ ghost use mathlib.Core.Path.{_≡_};
 ghost use mathlib.Core.Bool.{false};
 ghost use Prim.Native.Nat.{_-_, _*_, _%_, _^_, _<_, _≤_};
 ghost use Rattle.float_format.specs.Format.{signBit, topField, infinity, unsigned, exponentField, quieted, propagated};
-ghost use Rattle.float_format.specs.Number.{encode, bias, rank};
+ghost use Rattle.float_format.specs.Number.{encode, bias, leadingShift, rank};
 ghost use Rattle.float_format.specs.Rounding.{parts};
 ghost use Rattle.float_format.specs.Width.{format, InWord};
 ghost use Rattle.float_format.specs.declared.Direction.the-variants.{HalfEven};
@@ -110,7 +110,7 @@ pub fn rank(fraction: u64, exponent: u64, x: u64) -> u64
 // How far the leading one of m stands below the place of a normal number's: the one way that a number comes to its leading one.
 pub fn leading_shift(fraction: u64, m: u64) -> u64
     requires { ⌜ (fraction < 62) × (0 < m) × (m < 2 * 2 ^ fraction) ⌝ }
-    ensures { λ r. ⌜ (r ≤ fraction) × (2 ^ fraction ≤ m * 2 ^ r) × (m * 2 ^ r < 2 * 2 ^ fraction) ⌝ }
+    ensures { λ r. ⌜ (r ≤ fraction) × (2 ^ fraction ≤ m * 2 ^ r) × (m * 2 ^ r < 2 * 2 ^ fraction) × (r ≡ leadingShift fraction m) ⌝ }
 {
     u64::leading_zeros(m) as u64 - (63 - fraction)
 }

@@ -1,9 +1,9 @@
 -- fmod by the classes of its operands: a is x without its sign, b is y without it. Over every format. Assumes nothing.
-use mathlib.Core.Path.{_≡_, refl, sym, ap, _∙_}
+use mathlib.Core.Path.{_≡_, refl, sym, ap, ap₂, _∙_}
 use mathlib.Core.Bool.{Bool, true, false, _&&_, _||_, cond}
 use mathlib.Core.Logic.{_⊎_, inl, inr, ⊎-elim}
 use Prim.Native.Nat.{ℕ, _+_, _-_, _*_, _/_, _%_, _^_, _≤_, _<_}
-use native.Mathlib.Nat.{mod-eq-of-lt, le-div-iff-mul-le, div-eq-of-lt}
+use native.Mathlib.Nat.{mod-eq-of-lt, mod-lt, le-div-iff-mul-le, div-eq-of-lt}
 use native.Mathlib.Omega.{arith}
 use lib.Dec.{leb, ltb, eqb}
 use lib.Pow.{pow-pos}
@@ -11,11 +11,11 @@ use borrow.Author.Tests.{eq-eqb, ne-eqb, lt-ltb, le-ltb, le-leb, lt-leb, leb-fal
 use Rattle.float_format.specs.Format.{Format, signBit, infinity, defaultNan, negative, unsigned, signed, isNan, isInfinite, isZero, quieted}
 use Rattle.float_format.specs.Number.{magnitude, encode, unitsOf}
 use Rattle.float_format.specs.Width.{InWord}
-use Rattle.float_format.proofs.Units.{lt-or-ge, magnitude-mono, encode-magnitude}
-use Rattle.float_format.proofs.Patterns.{nan-is, infinite-is, signed-parts}
+use Rattle.float_format.proofs.Units.{lt-or-ge, magnitude-low, magnitude-mono, encode-low, encode-magnitude}
+use Rattle.float_format.proofs.Patterns.{below-sign, nan-is, infinite-is, signed-parts}
 use Rattle.remainder.specs.Remainder.{fmod, fmodRefusal, noRemainder}
-use Rattle.float_format.proofs.Sizes.{zero-is as signed-zero}
-use Rattle.remainder.specs.Shape.{isSpecial, scaleOf, Ordinary, Left}
+use Rattle.float_format.proofs.Sizes.{zero-is as signed-zero, zero-le}
+use Rattle.remainder.specs.Shape.{isSpecial, scaleOf, areUnits, Ordinary, Left}
 
 -- ---- classes
 
@@ -65,6 +65,10 @@ pub either : (b d : Bool) → (b ≡ true) ⊎ (d ≡ true) → (b || d) ≡ tru
 either true d h = refl
 either false d (inl e) = different (sym e)
 either false d (inr e) = e
+
+both : (b d : Bool) → (b && d) ≡ true → (b ≡ true) × (d ≡ true)
+both true d e = (refl, e)
+both false d e = different (sym e)
 
 module _ (f : Format) (x y : ℕ) where
   pub nan-first : infinity f < unsigned f x → Answers f x y (quieted f x) 0
@@ -167,6 +171,25 @@ module _ (f : Format) (x y : ℕ) where
 
   pub left-refuses : Ordinary f x y → 0 ≡ fmodRefusal f x y
   left-refuses o = sym (finite-operands f x y (o .finite-x) (o .finite-y) (o .nonzero) .refuses)
+
+  -- Where both are subnormal or zero, the patterns without the signs are the numbers of units, and what is left of them is a pattern too.
+  pub units-left : Ordinary f x y → areUnits f x y ≡ true
+      → (x - x % signBit f + unsigned f x % unsigned f y ≡ fmod f x y) × (x - x % signBit f + unsigned f x % unsigned f y < 2 * signBit f)
+  units-left o u =
+      let t : (ltb (unsigned f x) (2 ^ f .fraction) ≡ true) × (ltb (unsigned f y) (2 ^ f .fraction) ≡ true) = both _ _ u in
+      let lx : unsigned f x < 2 ^ f .fraction = ltb-true (unsigned f x) (2 ^ f .fraction) (t .0) in
+      let ly : unsigned f y < 2 ^ f .fraction = ltb-true (unsigned f y) (2 ^ f .fraction) (t .1) in
+      let l : unsigned f x % unsigned f y < unsigned f y = mod-lt (unsigned f x) (o .nonzero) in
+      let m : unitsOf f x % unitsOf f y ≡ unsigned f x % unsigned f y =
+      ap₂ _%_ (magnitude-low (f .fraction) (unsigned f x) lx) (magnitude-low (f .fraction) (unsigned f y) ly) in
+      let e : encode (f .fraction) (unitsOf f x % unitsOf f y) ≡ unsigned f x % unsigned f y =
+      ap (encode (f .fraction)) m ∙ encode-low (f .fraction) (unsigned f x % unsigned f y) (omega arith) in (
+        ap (λ (n : ℕ). n + unsigned f x % unsigned f y) (signed-zero f x (o .pattern))
+            ∙ ap (λ (n : ℕ). cond (negative f x) (signBit f) 0 + 0 + n) (sym e)
+            ∙ omega arith
+            ∙ sym (finite-operands f x y (o .finite-x) (o .finite-y) (o .nonzero) .is),
+        omega (arith, zero-le f x (o .pattern), below-sign f y),
+      )
 
   -- The code's test, as it is made: t is the first two parts of it, i is infinity's pattern.
   pub special-tested : (i a b : ℕ) (t : Bool) → i ≡ infinity f → a ≡ unsigned f x → b ≡ unsigned f y

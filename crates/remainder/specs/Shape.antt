@@ -1,9 +1,9 @@
 -- What the pieces of fmod cite: the sizes that a turn of the division is made for, the operands that have a remainder to be worked out,
 -- and the scale of a pattern. Definitions only; assumes nothing.
 use mathlib.Core.Path.{_≡_}
-use mathlib.Core.Bool.{Bool, _||_}
+use mathlib.Core.Bool.{Bool, _&&_, _||_}
 use Prim.Native.Nat.{ℕ, _+_, _-_, _*_, _/_, _%_, _^_, _≤_, _<_}
-use lib.Dec.{leb, eqb}
+use lib.Dec.{leb, ltb, eqb}
 use Rattle.float_format.specs.Format.{Format, signBit, infinity, unsigned}
 use Rattle.float_format.specs.Number.{magnitude}
 use Rattle.float_format.specs.Width.{InWord}
@@ -50,6 +50,10 @@ pub record Ordinary (f : Format) (x y : ℕ) : Type 0 where
   pub finite-x : unsigned f x < infinity f
   pub finite-y : unsigned f y < infinity f
   pub nonzero : 0 < unsigned f y
+
+-- both subnormal or zero: their patterns without the signs are their numbers of units
+abbrev pub areUnits : Format → ℕ → ℕ → Bool
+areUnits f x y = ltb (unsigned f x) (2 ^ f .fraction) && ltb (unsigned f y) (2 ^ f .fraction)
 
 -- the remainder of such x and y as a number r of units of y's scale
 pub record Left (f : Format) (x y r : ℕ) : Type 0 where

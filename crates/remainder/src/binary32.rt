@@ -31,6 +31,22 @@ pub fn fmod(x: u32, y: u32) -> Word32
             refusal: answer.refusal,
         };
     }
+    if super::are_units(
+        Binary32::FRACTION_BITS,
+        Binary32::EXPONENT_BITS,
+        x as u64,
+        y as u64,
+    ) {
+        return Word32 {
+            word: super::units_left(
+                Binary32::FRACTION_BITS,
+                Binary32::EXPONENT_BITS,
+                x as u64,
+                y as u64,
+            ) as u32,
+            refusal: 0,
+        };
+    }
     if super::smaller(
         Binary32::FRACTION_BITS,
         Binary32::EXPONENT_BITS,

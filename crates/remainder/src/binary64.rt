@@ -22,6 +22,12 @@ pub fn fmod(x: u64, y: u64) -> Word64
             y,
         );
     }
+    if super::are_units(Binary64::FRACTION_BITS, Binary64::EXPONENT_BITS, x, y) {
+        return Word64 {
+            word: super::units_left(Binary64::FRACTION_BITS, Binary64::EXPONENT_BITS, x, y),
+            refusal: 0,
+        };
+    }
     if super::smaller(Binary64::FRACTION_BITS, Binary64::EXPONENT_BITS, x, y) {
         return Word64 {
             word: x,

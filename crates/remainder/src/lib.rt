@@ -11,7 +11,7 @@ ghost use mathlib.Core.Bool.{true};
 ghost use Rattle.float_format.specs.Format.{signBit, defaultNan, unsigned};
 ghost use Rattle.float_format.specs.Width.{format, InWord};
 ghost use Rattle.remainder.specs.Remainder.{fmod, fmodRefusal};
-ghost use Rattle.remainder.specs.Shape.{Turn, Turns, topOf, inverseOf, scaleOf, isSpecial, Ordinary, Left};
+ghost use Rattle.remainder.specs.Shape.{Turn, Turns, topOf, inverseOf, scaleOf, isSpecial, areUnits, Ordinary, Left};
 use float_format::Word64;
 use float_format::width::encoded;
 use float_format::width::infinity_of;
@@ -155,6 +155,25 @@ fn special_answer(fraction: u64, exponent: u64, nan: u64, x: u64, y: u64) -> Wor
         word: x,
         refusal: 0,
     }
+}
+
+// Whether both are subnormal or zero: their patterns without the signs are then their numbers of units.
+fn are_units(fraction: u64, exponent: u64, x: u64, y: u64) -> bool
+    requires { ⌜ InWord (format fraction exponent) ⌝ }
+    ensures { λ r. ⌜ r ≡ areUnits (format fraction exponent) x y ⌝ }
+{
+    let unit = power(fraction);
+    rest(fraction, exponent, x) < unit && rest(fraction, exponent, y) < unit
+}
+
+// What is left of such an x, with its sign. One division does: nothing has to be brought to a leading one, and the answer is x where
+// that is the smaller.
+fn units_left(fraction: u64, exponent: u64, x: u64, y: u64) -> u64
+    requires { ⌜ Ordinary (format fraction exponent) x y × (areUnits (format fraction exponent) x y ≡ true) ⌝ }
+    ensures { λ r. ⌜ (r ≡ fmod (format fraction exponent) x y) × (r < 2 * signBit (format fraction exponent)) ⌝ }
+{
+    let left = rest(fraction, exponent, x) % rest(fraction, exponent, y);
+    signed_zero(fraction, exponent, x) + left
 }
 
 // Whether x is the smaller in magnitude, which is its own remainder.

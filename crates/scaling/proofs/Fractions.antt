@@ -9,7 +9,7 @@ use lib.IntN.{pos, _-ℤ_}
 use lib.Ieee.{size}
 use lib.Pow.{pow-pos, pow-mono, pow-add}
 use Rattle.float_format.specs.Format.{Format, Valid, signBit, topField, infinity, exponentField, negative, unsigned, signed}
-use Rattle.float_format.specs.Number.{magnitude, encode, bias, one}
+use Rattle.float_format.specs.Number.{magnitude, encode, bias, one, leadingShift}
 use Rattle.float_format.specs.Width.{InWord}
 use Rattle.float_format.proofs.Units.{lt-or-ge, size-is, encode-at}
 use Rattle.float_format.proofs.Integral.{Room, room}
@@ -17,7 +17,7 @@ use Rattle.float_format.proofs.Sizes.{zero-le}
 use Rattle.float_format.proofs.Order.{magnitude-zero}
 use Rattle.scaling.specs.Scaling.{frexpFraction, frexpExponent}
 use Rattle.scaling.specs.Position.{Significand}
-use Rattle.scaling.proofs.Significands.{field-split, normal-significand, subnormal-significand}
+use Rattle.scaling.proofs.Significands.{field-split, normal-significand, lifted-significand}
 use Rattle.scaling.proofs.Classes.{signed-from-zero, frexp-fraction-at, frexp-exponent-at}
 use Rattle.float_format.proofs.Powers.{swap, powers, gather, double, suc-times, cancel-le, cancel-lt, cancel-right}
 
@@ -129,9 +129,9 @@ pub record Lifted (f : Format) (x a k b : ℕ) : Type 0 where
   pub is : x - x % signBit f + ((b - 2) * 2 ^ f .fraction + a * 2 ^ k) ≡ frexpFraction f x
   pub exponent : pos (f .fraction + 1 - k) -ℤ pos (bias f + f .fraction - 1) ≡ frexpExponent f x
 
-pub lifted : (f : Format) (x a k b : ℕ) → Valid f → x < 2 * signBit f → a ≡ unsigned f x → a < 2 ^ f .fraction → k ≤ f .fraction
-    → 2 ^ f .fraction ≤ a * 2 ^ k → a * 2 ^ k < 2 * 2 ^ f .fraction → b ≡ bias f → Lifted f x a k b
-lifted f x a k b v p ea low short lo hi eb = go (room f (bias f) v refl) (subnormal-significand f x a k v ea low short lo hi)
+pub lifted : (f : Format) (x a k b : ℕ) → InWord f → x < 2 * signBit f → a ≡ unsigned f x → 0 < a → a < 2 ^ f .fraction → k ≤ f .fraction
+    → k ≡ leadingShift (f .fraction) a → b ≡ bias f → Lifted f x a k b
+lifted f x a k b w p ea some low short ek eb = go (room f (bias f) (w .valid) refl) (lifted-significand f x a k w ea some low short ek)
   where
     P : ℕ
     P = 2 ^ f .fraction
@@ -143,12 +143,12 @@ lifted f x a k b v p ea low short lo hi eb = go (room f (bias f) v refl) (subnor
         let half : (b - 2) * P ≡ (bias f - 2) * P = ap (λ (y : ℕ). (y - 2) * P) eb in
         let low : (bias f - 1) * P + P + P ≤ infinity f = omega (arith, rm .half-one, rm .one-whole, rm .whole) in
         record {
-          fits = omega (arith, rm .top);
+          fits = omega (arith, rm .top, g .below);
           is =
               ap (λ (y : ℕ). x - x % signBit f + (y + a * 2 ^ k)) half
               ∙ signed-from-zero f x ((bias f - 2) * P + a * 2 ^ k) p
-              ∙ sym (fraction-is f x (a * 2 ^ k) v 0 k g);
-          exponent = ap (λ (y : ℕ). pos y -ℤ pos (bias f + f .fraction - 1)) (omega arith) ∙ sym (exponent-is f x (a * 2 ^ k) v 0 k g);
+              ∙ sym (fraction-is f x (a * 2 ^ k) (w .valid) 0 k g);
+          exponent = ap (λ (y : ℕ). pos y -ℤ pos (bias f + f .fraction - 1)) (omega arith) ∙ sym (exponent-is f x (a * 2 ^ k) (w .valid) 0 k g);
         }
 
 -- the number of digits is one of 63 bits

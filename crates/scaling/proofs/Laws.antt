@@ -23,7 +23,7 @@ use Rattle.float_format.proofs.Order.{magnitude-zero, infinity-below-sign, abov
 use Rattle.scaling.specs.Scaling.{frexpFraction, frexpExponent, scaled, ldexp, ldexpRefusal}
 use Rattle.scaling.specs.Position.{Significand}
 use Rattle.float_format.proofs.Powers.{swap, powers, suc-times, product-pos, cancel-right}
-use Rattle.scaling.proofs.Offsets.{down-pos, powers-order, difference-power}
+use Rattle.scaling.proofs.Exponents.{down-pos, powers-order, difference-power}
 use Rattle.float_format.proofs.Monotone.{Keeps, keeps-at-most}
 use Rattle.float_format.proofs.Nearby.{NearestPattern, nearest-scale, rounds-nearest, keeps-order}
 use Rattle.float_format.proofs.Rounded.{capped-in, capped-out, capped-most, capped-mono, rounded-rest, rounded-sign, largest, rounded-beyond, rounded-from-halfway, times-cond, rounded-nearest, rounded-even, rounded-no-nearer, rounded-halves}

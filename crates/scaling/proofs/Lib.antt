@@ -1,5 +1,5 @@
 -- Laws over the open width, and in the shape of the code.
-pub mod Offsets
+pub mod Exponents
 pub mod Classes
 pub mod Significands
 pub mod Places

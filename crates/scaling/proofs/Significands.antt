@@ -9,7 +9,9 @@ use lib.Ieee.{size}
 use lib.Ieee.Digits.{size-lt, size-le, size-reaches}
 use lib.Pow.{pow-pos, pow-mono, mod-mod-pow}
 use Rattle.float_format.specs.Format.{Format, Valid, topField, infinity, exponentField, unsigned}
-use Rattle.float_format.specs.Number.{magnitude, bias}
+use Rattle.float_format.specs.Number.{magnitude, bias, leadingShift}
+use Rattle.float_format.specs.Width.{InWord}
+use Rattle.float_format.proofs.Lead.{subnormal-shift}
 use Rattle.float_format.proofs.Units.{lt-or-ge, magnitude-at, magnitude-low}
 use Rattle.float_format.proofs.Sizes.{rest-below, field-from}
 use Rattle.float_format.proofs.Integral.{room}
@@ -51,6 +53,13 @@ subnormal-significand f x a k v e l short lo hi =
       back-short = short;
     }
 
+-- by the shift that the code takes
+pub lifted-significand : (f : Format) (x a k : ℕ) → InWord f → a ≡ unsigned f x → 0 < a → a < 2 ^ f .fraction → k ≤ f .fraction
+    → k ≡ leadingShift (f .fraction) a → Significand f x (a * 2 ^ k) 0 k
+lifted-significand f x a k w e some l short ek =
+    let s = subnormal-shift f a w some l in
+    subnormal-significand f x a k (w .valid) e l short (rw ek (s .0)) (rw ek (omega (arith, s .1)))
+
 -- every finite number but zero has one
 pub record Found (f : Format) (x : ℕ) : Type 0 where
   pub m : ℕ
@@ -89,3 +98,8 @@ found f x v some h = ⊎-elim low high (lt-or-ge (unsigned f x) (2 ^ f .fraction
 -- with the exponent field 0 the rest of a pattern is its fraction
 pub low-rest : (f : Format) (x e : ℕ) → e ≡ exponentField f x → e ≡ 0 → unsigned f x < 2 ^ f .fraction
 low-rest f x e h z = omega (arith, rest-below f x e 1 h (omega arith))
+
+-- and with any other it is not zero
+pub some-rest : (f : Format) (x e : ℕ) → e ≡ exponentField f x → 0 < e → 0 < unsigned f x
+some-rest f x e h some =
+    omega (arith, field-split f x e h, mul-le-mul-right {m = 1} {n = e} (2 ^ f .fraction) some, pow-pos (f .fraction))

@@ -1,16 +1,16 @@
 // Powers of two taken out of a number and multiplied in: frexp and ldexp, at each width.
 //
 // The work is done once, with the width open: `fraction` and `exponent` are a format's field sizes, which each width's module hands
-// over as numbers, so that the compiler folds them. A normal number with a normal answer comes first: there only the exponent field
-// changes. All the rest goes to functions of its own.
+// over as numbers, so that the compiler folds them. Both go by the significand: a normal number has its leading one in place, and a
+// subnormal one is brought there by one shift. The pieces are small, so that the compiler puts each width's function together in one.
 ghost use mathlib.Core.Path.{_≡_};
-ghost use Prim.Native.Nat.{_+_, _-_, _*_, _^_, _<_, _≤_};
-ghost use lib.IntN.{ℤ, pos, _-ℤ_};
-ghost use Rattle.float_format.specs.Format.{signBit, topField, exponentField};
+ghost use Prim.Native.Nat.{_+_, _-_, _*_, _^_, _<_};
+ghost use lib.IntN.{pos, _-ℤ_};
+ghost use Rattle.float_format.specs.Format.{signBit, unsigned};
 ghost use Rattle.float_format.specs.Number.{bias};
-ghost use Rattle.float_format.specs.Width.{format, InWord};
+ghost use Rattle.float_format.specs.Width.{format, InWord, Finite};
 ghost use Rattle.scaling.specs.Scaling.{frexpFraction, frexpExponent, ldexp, ldexpRefusal};
-ghost use Rattle.scaling.specs.Position.{Short, Offset, Position};
+ghost use Rattle.scaling.specs.Position.{Position};
 use float_format::Word64;
 use float_format::width::bias_of;
 use float_format::width::field;
@@ -22,6 +22,9 @@ use float_format::width::rest;
 use float_format::width::shifted;
 use float_format::width::signed_zero;
 use float_format::width::top_field;
+use std::num::wrapping_add_u64;
+use std::num::wrapping_sub_u64;
+use twos_complement::word;
 
 pub mod binary32;
 pub mod binary64;
@@ -51,7 +54,7 @@ fn power_of(fraction: u64, exponent: u64, digits: u64) -> i64
 
 // A zero, or a subnormal, whose leading one goes to the place of a normal number's.
 fn frexp_subnormal(fraction: u64, exponent: u64, x: u64) -> Frexp64
-    requires { ⌜ InWord (format fraction exponent) × (x < 2 * signBit (format fraction exponent)) × (exponentField (format fraction exponent) x ≡ 0) ⌝ }
+    requires { ⌜ InWord (format fraction exponent) × (x < 2 * signBit (format fraction exponent)) × (unsigned (format fraction exponent) x < 2 ^ fraction) ⌝ }
     ensures { λ r. ⌜ (r .fraction ≡ frexpFraction (format fraction exponent) x) × (r .exponent ≡ frexpExponent (format fraction exponent) x) × (r .fraction < 2 * signBit (format fraction exponent)) ⌝ }
 {
     let m = rest(fraction, exponent, x);
@@ -70,13 +73,23 @@ fn frexp_subnormal(fraction: u64, exponent: u64, x: u64) -> Frexp64
     }
 }
 
-// What is not a normal number.
-fn frexp_rare(fraction: u64, exponent: u64, x: u64) -> Frexp64
-    requires { ⌜ InWord (format fraction exponent) × (x < 2 * signBit (format fraction exponent)) × (0 < exponentField (format fraction exponent) x → exponentField (format fraction exponent) x ≡ topField (format fraction exponent)) ⌝ }
+// Subnormal numbers stand below the smallest normal one, normal ones below infinity. A normal number keeps its sign and its fraction, and
+// its field becomes that of one half.
+fn frexp(fraction: u64, exponent: u64, x: u64) -> Frexp64
+    requires { ⌜ InWord (format fraction exponent) × (x < 2 * signBit (format fraction exponent)) ⌝ }
     ensures { λ r. ⌜ (r .fraction ≡ frexpFraction (format fraction exponent) x) × (r .exponent ≡ frexpExponent (format fraction exponent) x) × (r .fraction < 2 * signBit (format fraction exponent)) ⌝ }
 {
-    if rest(fraction, exponent, x) < power(fraction) {
+    let a = rest(fraction, exponent, x);
+    let unit = power(fraction);
+    if a < unit {
         return frexp_subnormal(fraction, exponent, x);
+    }
+    if a < infinity_of(fraction, exponent) {
+        let half = bias_of(fraction, exponent) - 1;
+        return Frexp64 {
+            fraction: signed_zero(fraction, exponent, x) + (x % unit + half * unit),
+            exponent: power_of(fraction, exponent, fraction + (a >> fraction)),
+        };
     }
     Frexp64 {
         fraction: not_finite(fraction, exponent, x),
@@ -84,108 +97,85 @@ fn frexp_rare(fraction: u64, exponent: u64, x: u64) -> Frexp64
     }
 }
 
-// A normal number keeps its sign and its fraction, and its field becomes that of one half.
-fn frexp(fraction: u64, exponent: u64, x: u64) -> Frexp64
-    requires { ⌜ InWord (format fraction exponent) × (x < 2 * signBit (format fraction exponent)) ⌝ }
-    ensures { λ r. ⌜ (r .fraction ≡ frexpFraction (format fraction exponent) x) × (r .exponent ≡ frexpExponent (format fraction exponent) x) × (r .fraction < 2 * signBit (format fraction exponent)) ⌝ }
-{
-    let e = field(fraction, exponent, x);
-    let top = top_field(fraction, exponent);
-    if 0 < e && e < top {
-        let unit = power(fraction);
-        let half = bias_of(fraction, exponent) - 1;
-        return Frexp64 {
-            fraction: signed_zero(fraction, exponent, x) + (x % unit + half * unit),
-            exponent: power_of(fraction, exponent, fraction + e),
-        };
-    }
-    frexp_rare(fraction, exponent, x)
-}
-
 // ---- ldexp
 
-// 8192 + n, with n cut to -4096 to 4096: past that every scaling overflows or gives zero.
-fn offset(n: i64) -> u64
-    ensures { λ r. ⌜ Offset n r × (4096 ≤ r) × (r ≤ 12288) ⌝ }
-{
-    if n > 4096 {
-        return 12288;
-    }
-    if n < 0 - 4096 {
-        return 4096;
-    }
-    (n + 8192) as u64
+// Where x times 2^n stands: x's significand with its leading one in place, and the exponent field that goes with it, were there no
+// end to the fields: a number of 64 bits in two's complement.
+struct Place {
+    significand: u64,
+    field: u64,
 }
 
-// The number with x's sign and the significand m whose exponent field would be t - 8192.
-fn placed(fraction: u64, exponent: u64, x: u64, m: u64, t: u64) -> Word64
-    requires { ⌜ Short (format fraction exponent) × (x < 2 * signBit (format fraction exponent)) × (m < 2 * 2 ^ fraction) ⌝ }
-    ensures { λ r. ⌜ ((n : ℤ) → Position (format fraction exponent) x m t n → (r .word ≡ ldexp (format fraction exponent) x n) × (r .refusal ≡ ldexpRefusal (format fraction exponent) x n)) × (r .word < 2 * signBit (format fraction exponent)) ⌝ }
+// Of a number that is not zero, with the exponent field e.
+fn place_of(fraction: u64, exponent: u64, x: u64, e: u64, n: i64) -> Place
+    requires { ⌜ Finite (format fraction exponent) x e × (0 < unsigned (format fraction exponent) x) ⌝ }
+    ensures { λ r. ⌜ Position (format fraction exponent) x (r .significand) (r .field) n ⌝ }
 {
-    let zero = signed_zero(fraction, exponent, x);
-    if t >= 8192 + top_field(fraction, exponent) {
-        return Word64 {
-            word: zero + infinity_of(fraction, exponent),
-            refusal: 3,
+    let w = word(n);
+    if e > 0 {
+        let unit = power(fraction);
+        return Place {
+            significand: unit + x % unit,
+            field: wrapping_add_u64(w, e),
         };
     }
-    if t > 8192 {
+    let a = rest(fraction, exponent, x);
+    let k = leading_shift(fraction, a);
+    Place {
+        significand: a * power(k),
+        field: wrapping_sub_u64(wrapping_add_u64(w, 1), k),
+    }
+}
+
+// The number there, with x's sign. A field from 1 to below the top one is a normal number's. From 0 down the significand moves down and
+// is rounded, so far as anything is left of it. All other fields overflow, or are too small by far.
+fn placed(fraction: u64, exponent: u64, x: u64, m: u64, t: u64, n: i64) -> Word64
+    requires { ⌜ InWord (format fraction exponent) × (x < 2 * signBit (format fraction exponent)) × Position (format fraction exponent) x m t n ⌝ }
+    ensures { λ r. ⌜ (r .word ≡ ldexp (format fraction exponent) x n) × (r .refusal ≡ ldexpRefusal (format fraction exponent) x n) × (r .word < 2 * signBit (format fraction exponent)) ⌝ }
+{
+    let zero = signed_zero(fraction, exponent, x);
+    if 0 < t && t < top_field(fraction, exponent) {
         return Word64 {
-            word: zero + ((t - 8193) * power(fraction) + m),
+            word: zero + ((t - 1) * power(fraction) + m),
+            refusal: 0,
+        };
+    }
+    let d = wrapping_sub_u64(1, t);
+    if d <= fraction + 1 {
+        return Word64 {
+            word: zero + shifted(fraction, m, d),
+            refusal: 0,
+        };
+    }
+    if n < 0 {
+        return Word64 {
+            word: zero,
             refusal: 0,
         };
     }
     Word64 {
-        word: zero + shifted(fraction, m, 8193 - t),
-        refusal: 0,
+        word: zero + infinity_of(fraction, exponent),
+        refusal: 3,
     }
 }
 
-// Every number, by its significand: a subnormal's leading one goes to the place of a normal number's.
-fn ldexp_rare(fraction: u64, exponent: u64, x: u64, w: u64) -> Word64
-    requires { ⌜ Short (format fraction exponent) × (x < 2 * signBit (format fraction exponent)) × (4096 ≤ w) × (w ≤ 12288) ⌝ }
-    ensures { λ r. ⌜ ((n : ℤ) → Offset n w → (r .word ≡ ldexp (format fraction exponent) x n) × (r .refusal ≡ ldexpRefusal (format fraction exponent) x n)) × (r .word < 2 * signBit (format fraction exponent)) ⌝ }
+fn ldexp(fraction: u64, exponent: u64, x: u64, n: i64) -> Word64
+    requires { ⌜ InWord (format fraction exponent) × (x < 2 * signBit (format fraction exponent)) ⌝ }
+    ensures { λ r. ⌜ (r .word ≡ ldexp (format fraction exponent) x n) × (r .refusal ≡ ldexpRefusal (format fraction exponent) x n) × (r .word < 2 * signBit (format fraction exponent)) ⌝ }
 {
     let e = field(fraction, exponent, x);
+    if e == 0 && rest(fraction, exponent, x) == 0 {
+        return Word64 {
+            word: x,
+            refusal: 0,
+        };
+    }
     if e == top_field(fraction, exponent) {
         return Word64 {
             word: not_finite(fraction, exponent, x),
             refusal: 0,
         };
     }
-    if e > 0 {
-        let unit = power(fraction);
-        return placed(fraction, exponent, x, unit + x % unit, w + e);
-    }
-    let m = rest(fraction, exponent, x);
-    if m == 0 {
-        return Word64 {
-            word: x,
-            refusal: 0,
-        };
-    }
-    let k = leading_shift(fraction, m);
-    placed(fraction, exponent, x, m * power(k), w + 1 - k)
-}
-
-// The long way is called from two places, so that the compiler keeps it apart and folds the short way into each width.
-fn ldexp(fraction: u64, exponent: u64, x: u64, n: i64) -> Word64
-    requires { ⌜ Short (format fraction exponent) × (x < 2 * signBit (format fraction exponent)) ⌝ }
-    ensures { λ r. ⌜ (r .word ≡ ldexp (format fraction exponent) x n) × (r .refusal ≡ ldexpRefusal (format fraction exponent) x n) × (r .word < 2 * signBit (format fraction exponent)) ⌝ }
-{
-    let w = offset(n);
-    let e = field(fraction, exponent, x);
-    let top = top_field(fraction, exponent);
-    if 0 < e && e < top {
-        let t = w + e;
-        if 8192 < t && t < 8192 + top {
-            let unit = power(fraction);
-            return Word64 {
-                word: x - e * unit + (t - 8192) * unit,
-                refusal: 0,
-            };
-        }
-        return ldexp_rare(fraction, exponent, x, w);
-    }
-    ldexp_rare(fraction, exponent, x, w)
+    let p = place_of(fraction, exponent, x, e, n);
+    placed(fraction, exponent, x, p.significand, p.field, n)
 }

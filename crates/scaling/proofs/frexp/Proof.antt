@@ -1,15 +1,15 @@
 -- `frexp` meets its contract: a normal number keeps its sign and its fraction, and its field becomes that of one half. Assumes nothing.
-use mathlib.Core.Path.{_≡_, _∙_}
-use mathlib.Core.Logic.{⊎-elim}
-use Prim.Native.Nat.{ℕ, _+_, _-_, _*_, _%_, _^_, _<_}
+use mathlib.Core.Path.{_≡_, refl, sym, ap, _∙_}
+use Prim.Native.Nat.{ℕ, _+_, _-_, _*_, _/_, _%_, _^_, _≤_, _<_}
+use native.Mathlib.Nat.{le-antisymm, div-lt-iff-lt-mul}
 use native.Mathlib.Omega.{arith}
 use lib.Pow.{pow-pos}
-use borrow.Author.Tests.{ltb-true, ltb-false}
 use mir.Syntax.{w64}
 use mir.Val.{ofZ, toZ}
-use Rattle.float_format.specs.Format.{Format, signBit, exponentField}
+use Rattle.float_format.specs.Format.{Format, signBit, topField, infinity, exponentField, unsigned}
 use Rattle.float_format.specs.Width.{format}
-use Rattle.float_format.proofs.Sizes.{Sizes, sizes, fields-apart}
+use Rattle.float_format.proofs.Sizes.{Sizes, sizes, field-le, field-from, fields-apart}
+use Rattle.scaling.proofs.Classes.{frexp-not-finite}
 use Rattle.scaling.proofs.Fractions.{Halved, halved, digits-short}
 use borrow.Author.Needs.{needs}
 use Rattle.scaling.proofs.frexp.Statement.{statement}
@@ -22,37 +22,60 @@ abbrev start : tie.After-signed-zero → tie.Start
 start c = c .before .before .before .before .before .before .before
 
 -- the format
-abbrev at : tie.After-signed-zero → Format
-at c = format (start c .args .fraction) (start c .args .exponent)
+abbrev at : tie.Start → Format
+at s = format (s .args .fraction) (s .args .exponent)
 
-halve : (c : tie.After-signed-zero) → Halved (at c) (start c .args .x) (c .before .before .before .before .before .before .field .result) (c .before .before .power .result) (c .before .bias-of .result)
+-- the exponent field, as the code takes it from the pattern without its sign
+abbrev taken : tie.After-signed-zero → ℕ
+taken c = c .before .before .before .before .before .before .rest .result / 2 ^ start c .args .fraction
+
+field-is : (c : tie.After-signed-zero) → taken c ≡ exponentField (at (start c)) (start c .args .x)
+field-is c = ap (λ (n : ℕ). n / 2 ^ start c .args .fraction) (c .before .before .before .before .before .before .rest .ensures)
+
+from-unit : (c : tie.Else1) → 2 ^ c .before .before .before .args .fraction ≤ unsigned (at (c .before .before .before)) (c .before .before .before .args .x)
+from-unit c = omega (arith, c .before .before .rest .ensures, c .before .power .ensures, c .if1 .left)
+
+halve : (c : tie.After-signed-zero) → Halved (at (start c)) (start c .args .x) (taken c) (c .before .before .before .before .before .power .result) (c .before .bias-of .result)
 halve c =
-    let e = c .before .before .before .before .before .before .field in
-    halved (at c) (start c .args .x) (e .result) (c .before .before .power .result) (c .before .bias-of .result) (start c .pre .0 .valid) (start c .pre .1) (e .ensures .0)
-    (c .before .before .before .before .if1 .taken) (omega (arith, ltb-true (e .result) (c .before .before .before .before .before .top-field .result) (c .before .before .before .if2 .taken), c .before .before .before .before .before .top-field .ensures)) (c .before .before .power .ensures) (c .before .bias-of .ensures)
+    let s = start c in
+    let b = c .before .before in
+    halved (at s) (s .args .x) (taken c) (b .before .before .before .power .result) (c .before .bias-of .result) (s .pre .0 .valid) (s .pre .1) (field-is c)
+    (field-from (at s) (s .args .x) (taken c) 1 (field-is c) (omega (arith, from-unit (b .before .before))))
+    (div-lt-iff-lt-mul (pow-pos (s .args .fraction)) .1 (omega (arith, b .if2 .taken, b .before .infinity-of .ensures)))
+    (b .before .before .before .power .ensures) (c .before .bias-of .ensures)
 
-size-of : (c : tie.After-signed-zero) → Sizes (at c)
-size-of c = sizes (at c) (start c .pre .0)
+size-of : (c : tie.After-signed-zero) → Sizes (at (start c))
+size-of c = sizes (at (start c)) (start c .pre .0)
 
-short : (c : tie.After-signed-zero) → start c .args .fraction + c .before .before .before .before .before .before .field .result < 2 ^ 63
-short c = digits-short (at c) (c .before .before .before .before .before .before .field .result) (start c .pre .0) (c .before .before .before .before .before .before .field .ensures .1)
+short : (c : tie.After-signed-zero) → start c .args .fraction + taken c < 2 ^ 63
+short c = digits-short (at (start c)) (taken c) (start c .pre .0) (rw (field-is c) (field-le (at (start c)) (start c .args .x)))
 
 -- the pattern, in the pieces that the code names
-apart : (c : tie.After-signed-zero) → start c .args .x ≡ c .signed-zero .result + (c .before .before .before .before .before .before .field .result * c .before .before .power .result + start c .args .x % c .before .before .power .result)
-apart c = pieces (at c) (start c .args .x) (c .signed-zero .result) (c .before .before .before .before .before .before .field .result) (c .before .before .power .result) (c .signed-zero .ensures) (c .before .before .before .before .before .before .field .ensures .0) (c .before .before .power .ensures)
+apart : (c : tie.After-signed-zero) → start c .args .x ≡ c .signed-zero .result + (taken c * c .before .before .before .before .before .power .result + start c .args .x % c .before .before .before .before .before .power .result)
+apart c = pieces (at (start c)) (start c .args .x) (c .signed-zero .result) (taken c) (c .before .before .before .before .before .power .result) (c .signed-zero .ensures) (field-is c) (c .before .before .before .before .before .power .ensures)
 
-moved : (c : tie.After-signed-zero) → c .signed-zero .result + (start c .args .x % c .before .before .power .result + (c .before .bias-of .result - 1) * c .before .before .power .result)
-    ≡ start c .args .x - c .before .before .before .before .before .before .field .result * c .before .before .power .result + (c .before .bias-of .result - 1) * c .before .before .power .result
+moved : (c : tie.After-signed-zero) → c .signed-zero .result + (start c .args .x % c .before .before .before .before .before .power .result + (c .before .bias-of .result - 1) * c .before .before .before .before .before .power .result)
+    ≡ start c .args .x - taken c * c .before .before .before .before .before .power .result + (c .before .bias-of .result - 1) * c .before .before .before .before .before .power .result
 moved c = omega (arith, apart c)
 
-field-requires : tie.Need-field-requires
-field-requires c κs = search needs
+-- an infinity or a NaN
+from-top : (c : tie.Else2) → infinity (at (c .before .before .before .before .before)) ≤ unsigned (at (c .before .before .before .before .before)) (c .before .before .before .before .before .args .x)
+from-top c = omega (arith, c .before .before .before .before .rest .ensures, c .before .infinity-of .ensures, c .if2 .left)
 
-top-field-requires : tie.Need-top-field-requires
-top-field-requires c κs = search needs
+rest-requires : tie.Need-rest-requires
+rest-requires c κs = search needs
 
 power-requires : tie.Need-power-requires
 power-requires c κs = search needs
+
+frexp-subnormal-requires : tie.Need-frexp-subnormal-requires
+frexp-subnormal-requires c κs = search needs
+
+returns : tie.Need-returns
+returns c = search needs
+
+infinity-of-requires : tie.Need-infinity-of-requires
+infinity-of-requires c κs = search needs
 
 bias-of-requires : tie.Need-bias-of-requires
 bias-of-requires c κs = search needs
@@ -63,17 +86,20 @@ sub-half c = search needs
 signed-zero-requires : tie.Need-signed-zero-requires
 signed-zero-requires c κs = search needs
 
-rem-t11 : tie.Need-rem-t11
-rem-t11 c = rw (c .before .before .power .ensures) (pow-pos (start c .args .fraction))
+rem-t10 : tie.Need-rem-t10
+rem-t10 c = rw (c .before .before .before .before .before .power .ensures) (pow-pos (start c .args .fraction))
 
-mul-t12 : tie.Need-mul-t12
-mul-t12 c = omega (arith, halve c .half-lt, size-of c .room .top, size-of c .sign-le)
+mul-t11 : tie.Need-mul-t11
+mul-t11 c = omega (arith, halve c .half-lt, size-of c .room .top, size-of c .sign-le)
+
+add-t12 : tie.Need-add-t12
+add-t12 c = omega (arith, halve c .fits, apart c, size-of c .sign-le)
 
 add-t13 : tie.Need-add-t13
 add-t13 c = omega (arith, halve c .fits, apart c, size-of c .sign-le)
 
-add-t14 : tie.Need-add-t14
-add-t14 c = omega (arith, halve c .fits, apart c, size-of c .sign-le)
+shr-power-of : tie.Need-shr-power-of
+shr-power-of c = search needs
 
 add-power-of : tie.Need-add-power-of
 add-power-of c = omega (arith, short c)
@@ -81,38 +107,42 @@ add-power-of c = omega (arith, short c)
 power-of-requires : tie.Need-power-of-requires
 power-of-requires c κs = (start c .pre .0, short c)
 
-returns : tie.Need-returns
-returns c = let h = halve (c .before) in let e : toZ w64 (ofZ w64 (c .power-of .result)) ≡ c .power-of .result = search needs in (moved (c .before) ∙ h .is, e ∙ c .power-of .ensures ∙ h .exponent, rw (moved (c .before)) (h .fits))
-
-frexp-rare-requires : tie.Need-frexp-rare-requires
-frexp-rare-requires c κs = (
-  c .before .before .before .pre .0,
-  c .before .before .before .pre .1,
-  λ some. ⊎-elim
-      (λ w. omega (arith, c .before .before .field .ensures, c .before .top-field .ensures, ltb-false (c .before .before .field .result) (c .before .top-field .result) (w .1 .left)))
-      (λ w. absurd (omega (arith, c .before .before .field .ensures, w .left)))
-      (c .if1 .came),
-)
-
 returns-2 : tie.Need-returns-2
-returns-2 c = search needs
+returns-2 c =
+    let h = halve (c .before) in
+    let e : toZ w64 (ofZ w64 (c .power-of .result)) ≡ c .power-of .result = search needs in
+    (moved (c .before) ∙ h .is, e ∙ c .power-of .ensures ∙ h .exponent, rw (moved (c .before)) (h .fits))
+
+not-finite-requires : tie.Need-not-finite-requires
+not-finite-requires c κs =
+    let s = c .before .before .before .before .before in
+    (s .pre .0, s .pre .1, le-antisymm (field-le (at s) (s .args .x)) (field-from (at s) (s .args .x) (exponentField (at s) (s .args .x)) (topField (at s)) refl (from-top c)))
+
+returns-3 : tie.Need-returns-3
+returns-3 c =
+    let s = c .before .before .before .before .before .before in
+    let r = frexp-not-finite (at s) (s .args .x) (c .not-finite .result) (from-top (c .before)) (c .not-finite .ensures .0) in
+    (r .0, r .1, c .not-finite .ensures .1)
 
 pub frexp-spec : {M : Type 1} → statement M
 frexp-spec =
     tie.close
     (tie.spec
-    field-requires
-    top-field-requires
+    rest-requires
     power-requires
+    frexp-subnormal-requires
+    returns
+    infinity-of-requires
     bias-of-requires
     sub-half
     signed-zero-requires
-    rem-t11
-    mul-t12
+    rem-t10
+    mul-t11
+    add-t12
     add-t13
-    add-t14
+    shr-power-of
     add-power-of
     power-of-requires
-    returns
-    frexp-rare-requires
-    returns-2)
+    returns-2
+    not-finite-requires
+    returns-3)

@@ -1,13 +1,11 @@
 -- `frexp_subnormal` meets its contract: the leading one goes to its place, and the field is that of one half. Assumes nothing.
 use mathlib.Core.Path.{_≡_, sym, _∙_}
-use Prim.Native.Nat.{_^_, _<_}
 use native.Mathlib.Omega.{arith}
 use mir.Syntax.{w64}
 use mir.Val.{ofZ, toZ}
 use Rattle.float_format.specs.Format.{Format, unsigned}
 use Rattle.float_format.specs.Width.{format}
 use Rattle.float_format.proofs.Sizes.{sizes}
-use Rattle.scaling.proofs.Significands.{low-rest}
 use Rattle.scaling.proofs.Classes.{frexp-zero}
 use Rattle.scaling.proofs.Fractions.{Lifted, lifted}
 use borrow.Author.Needs.{needs}
@@ -18,16 +16,13 @@ use Rattle.scaling.proofs.frexp_subnormal.Tie as tie
 abbrev at : tie.Start → Format
 at s = format (s .args .fraction) (s .args .exponent)
 
-low : (s : tie.Start) → unsigned (at s) (s .args .x) < 2 ^ s .args .fraction
-low s = low-rest (at s) (s .args .x) 0 (sym (s .pre .2)) (omega arith)
-
 lift : (c : tie.After-bias-of) → Lifted (at (c .before .before .before .before)) (c .before .before .before .before .args .x) (c .before .before .before .rest .result) (c .before .leading-shift .result) (c .bias-of .result)
 lift c =
     let s = c .before .before .before .before in
     let k = c .before .leading-shift in
     let a = c .before .before .before .rest in
-    lifted (at s) (s .args .x) (a .result) (k .result) (c .bias-of .result) (s .pre .0 .valid) (s .pre .1) (a .ensures)
-    (omega (arith, a .ensures, low s)) (k .ensures .0) (k .ensures .1) (k .ensures .2) (c .bias-of .ensures)
+    lifted (at s) (s .args .x) (a .result) (k .result) (c .bias-of .result) (s .pre .0) (s .pre .1) (a .ensures)
+    (omega (arith, c .before .before .if1 .left)) (omega (arith, a .ensures, s .pre .2)) (k .ensures .0) (k .ensures .3) (c .bias-of .ensures)
 
 rest-requires : tie.Need-rest-requires
 rest-requires c κs = search needs
@@ -40,7 +35,7 @@ returns c =
 
 leading-shift-requires : tie.Need-leading-shift-requires
 leading-shift-requires c κs =
-    (sizes (at (c .before .before)) (c .before .before .pre .0) .fraction-lt, omega (arith, c .if1 .left), omega (arith, c .before .rest .ensures, low (c .before .before)))
+    (sizes (at (c .before .before)) (c .before .before .pre .0) .fraction-lt, omega (arith, c .if1 .left), omega (arith, c .before .rest .ensures, c .before .before .pre .2))
 
 bias-of-requires : tie.Need-bias-of-requires
 bias-of-requires c κs = search needs

@@ -8,7 +8,7 @@ use mir.ValLaws.{toZ-ofZ}
 use Rattle.float_format.specs.Format.{Format}
 use Rattle.float_format.specs.Width.{format}
 use Rattle.float_format.proofs.Sizes.{Sizes, sizes}
-use Rattle.scaling.proofs.Offsets.{difference-fits, difference-is}
+use Rattle.scaling.proofs.Exponents.{difference-fits, difference-is}
 use borrow.Author.Needs.{needs}
 use Rattle.scaling.proofs.power_of.Statement.{statement}
 use Rattle.scaling.proofs.power_of.Tie as tie

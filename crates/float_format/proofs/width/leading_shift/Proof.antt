@@ -20,7 +20,7 @@ sub-result-2 : tie.Need-sub-result-2
 sub-result-2 c = at c .past
 
 returns : tie.Need-returns
-returns c = (at c .short, at c .from, at c .below)
+returns c = (at c .short, at c .from, at c .below, refl)
 
 pub leading-shift-spec : {M : Type 1} → statement M
 leading-shift-spec = tie.close (tie.spec cast-result sub-result sub-result-2 returns)

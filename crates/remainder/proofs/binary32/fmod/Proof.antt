@@ -28,23 +28,41 @@ cast-t11 c = search needs
 returns : tie.Need-returns
 returns c = search needs
 
+are-units-requires : tie.Need-are-units-requires
+are-units-requires c κs = search needs
+
+units-left-requires : tie.Need-units-left-requires
+units-left-requires c κs = (at (c .before .before), sym (c .before .are-units .ensures) ∙ c .if2 .taken)
+
+cast-t16 : tie.Need-cast-t16
+cast-t16 c = search needs
+
+returns-2 : tie.Need-returns-2
+returns-2 c =
+    let a = c .before .before .before .before .before .args in
+    (c .units-left .ensures .0, left-refuses binary32 (a .x) (a .y) (at (c .before .before .before)))
+
 smaller-requires : tie.Need-smaller-requires
 smaller-requires c κs = search needs
 
-returns-2 : tie.Need-returns-2
-returns-2 c = smaller-returns binary32 (c .before .before .before .before .args .x) (c .before .before .before .before .args .y) (at (c .before .before)) (c .before .smaller .ensures) (c .if2 .taken)
+returns-3 : tie.Need-returns-3
+returns-3 c =
+    let a = c .before .before .before .before .before .before .args in
+    smaller-returns binary32 (a .x) (a .y) (at (c .before .before .before .before)) (c .before .smaller .ensures) (c .if3 .taken)
 
 remainder-at-scale-requires : tie.Need-remainder-at-scale-requires
-remainder-at-scale-requires c κs = (at (c .before .before), ltb-false _ _ (sym (c .before .smaller .ensures) ∙ c .if2 .left))
+remainder-at-scale-requires c κs = (at (c .before .before .before .before), ltb-false _ _ (sym (c .before .smaller .ensures) ∙ c .if3 .left))
 
 with-remainder-requires : tie.Need-with-remainder-requires
-with-remainder-requires c κs = (at (c .before .before .before), c .remainder-at-scale .ensures)
+with-remainder-requires c κs = (at (c .before .before .before .before .before), c .remainder-at-scale .ensures)
 
-cast-t14 : tie.Need-cast-t14
-cast-t14 c = search needs
+cast-t19 : tie.Need-cast-t19
+cast-t19 c = search needs
 
-returns-3 : tie.Need-returns-3
-returns-3 c = (c .with-remainder .ensures .0, left-refuses binary32 (c .before .before .before .before .before .before .args .x) (c .before .before .before .before .before .before .args .y) (at (c .before .before .before .before)))
+returns-4 : tie.Need-returns-4
+returns-4 c =
+    let a = c .before .before .before .before .before .before .before .before .args in
+    (c .with-remainder .ensures .0, left-refuses binary32 (a .x) (a .y) (at (c .before .before .before .before .before .before)))
 
 pub fmod-spec : {M : Type 1} → statement M
 fmod-spec =
@@ -55,9 +73,13 @@ fmod-spec =
     special-answer-requires
     cast-t11
     returns
-    smaller-requires
+    are-units-requires
+    units-left-requires
+    cast-t16
     returns-2
+    smaller-requires
+    returns-3
     remainder-at-scale-requires
     with-remainder-requires
-    cast-t14
-    returns-3)
+    cast-t19
+    returns-4)

@@ -1,8 +1,10 @@
--- Signed numbers of 64 bits in the code: n cut and counted from 8192, and a difference of two counts. Assumes nothing.
+-- Powers of two, n of 64 bits: the up part and the down part of n, the word that holds it, and a difference of two counts. Assumes
+-- nothing.
 use mathlib.Core.Path.{_≡_, refl, ap}
 use mathlib.Core.Bool.{Bool, true, false, cond}
-use mathlib.Core.Logic.{inl, inr, ⊎-elim}
-use Prim.Native.Nat.{ℕ, zero, suc, _+_, _-_, _*_, _^_, _≤_, _<_}
+use mathlib.Core.Logic.{_⊎_, inl, inr, ⊎-elim}
+use Prim.Native.Nat.{ℕ, zero, suc, _+_, _-_, _*_, _%_, _^_, _≤_, _<_}
+use native.Mathlib.Nat.{mod-eq-of-lt}
 use native.Mathlib.Omega.{arith}
 use lib.Dec.{leb→le}
 use lib.IntN.{ℤ, pos, negsuc, subℕ, _+ℤ_, _-ℤ_}
@@ -10,11 +12,11 @@ use lib.Ieee.{up, down}
 use lib.Pow.{pow-pos, pow-mono}
 use lib.Signed.{ltZ, _≤ℤ_}
 use mir.Syntax.{w64}
-use mir.Val.{toZ, SFits}
+use mir.Val.{ofZ, toZ, SFits}
 use mir.ValLaws.{toZ-pos}
-use borrow.Author.Tests.{ltb-true, ltb-false, lt-ltb, le-ltb}
+use borrow.Author.Tests.{ltb-true, lt-ltb, le-ltb}
 use Rattle.float_format.proofs.Units.{lt-or-ge}
-use Rattle.scaling.specs.Position.{raise, lower, Offset}
+use Rattle.scaling.specs.Position.{raise, lower}
 use Rattle.float_format.proofs.Powers.{powers}
 
 -- ---- a power of two as its up part and its down part
@@ -60,39 +62,34 @@ pub difference-power : (a b : ℕ) → up (pos a -ℤ pos b) * 2 ^ b ≡ 2 ^ a *
 difference-power a zero = ap (λ (y : ℕ). 2 ^ y * 1) (omega arith)
 difference-power a (suc b) = sub-power a (suc b)
 
--- ---- n, cut
+-- ---- the word that holds n
 
-never : false ≡ true → ⊥
-never h = let z : _≡_ {A = ℕ} 0 1 = cc in omega arith
+pub record Bits (n : ℤ) (w : ℕ) : Type 0 where
+  pub raise-lt : raise n < 2 ^ 63
+  pub lower-le : lower n ≤ 2 ^ 63
+  pub below : w < 2 ^ 64
+  pub is : (w + lower n ≡ raise n) ⊎ (w + lower n ≡ 2 ^ 64 + raise n)
 
-pub far-up : (n : ℤ) → ltZ (pos 4096) n ≡ true → Offset n 12288
-far-up (pos k) h = inr (inl (ltb-true 4096 k h, refl, refl))
-far-up (negsuc k) h = absurd (never h)
+pub bits : (n : ℤ) → SFits w64 n → Bits n (ofZ w64 n)
+bits (pos k) h =
+    let l : k < 2 ^ 63 = h .sfits in
+    record { raise-lt = l; lower-le = omega arith; below = omega arith; is = inl (omega arith) }
+bits (negsuc k) h =
+    let l : k < 2 ^ 63 = h .sfits in
+    record { raise-lt = omega arith; lower-le = omega arith; below = omega arith; is = inr (omega arith) }
 
-pub far-down : (n : ℤ) → ltZ n (negsuc 4095) ≡ true → Offset n 4096
-far-down (pos k) h = absurd (never h)
-far-down (negsuc k) h = inr (inr (omega (arith, ltb-true 4095 k h), refl, refl))
+-- the sign of n, as the code asks for it
+pub below-zero : (n : ℤ) → ltZ n (pos 0) ≡ true → (raise n ≡ 0) × (0 < lower n)
+below-zero (pos k) h = absurd (omega (arith, ltb-true k 0 h))
+below-zero (negsuc k) h = (refl, omega arith)
 
-pub record Within (n : ℤ) : Type 0 where
-  pub w : ℕ
-  pub sum : n +ℤ pos 8192 ≡ pos w
-  pub offset : Offset n w
-  pub least : 4096 ≤ w
-  pub most : w ≤ 12288
+pub from-zero : (n : ℤ) → ltZ n (pos 0) ≡ false → lower n ≡ 0
+from-zero (pos k) h = refl
+from-zero (negsuc k) h = let z : _≡_ {A = ℕ} 0 1 = cc in absurd (omega arith)
 
-pub within : (n : ℤ) → ltZ (pos 4096) n ≡ false → ltZ n (negsuc 4095) ≡ false → Within n
-within (pos k) h l =
-    let b : k ≤ 4096 = ltb-false 4096 k h in
-    record { w = k + 8192; sum = refl; offset = inl (omega arith); least = omega arith; most = omega arith }
-within (negsuc k) h l =
-    let b : k ≤ 4095 = ltb-false 4095 k l in
-    record {
-      w = 8192 - suc k;
-      sum = ap (λ (t : Bool). cond t (negsuc (suc k - suc 8192)) (pos (8192 - suc k))) (le-ltb 8192 (suc k) (omega arith));
-      offset = inl (omega arith);
-      least = omega arith;
-      most = omega arith;
-    }
+-- the lowest 64 bits of a number of 65
+pub wrapped : (a : ℕ) → a < 2 ^ 65 → (a % 2 ^ 64 ≡ a) ⊎ (a ≡ 2 ^ 64 + a % 2 ^ 64)
+wrapped a h = ⊎-elim (λ l. inl (mod-eq-of-lt l)) (λ g. inr (omega arith)) (lt-or-ge a (2 ^ 64))
 
 -- ---- a difference
 
