@@ -400,7 +400,7 @@ static const struct {
 
 enum { SUBNORMALS = sizeof subnormals / sizeof subnormals[0] };
 
-/* Every function takes the sets up to SPECIAL; a remainder FAR; and the last three are for halves. */
+/* Every function takes the sets up to SPECIAL, a remainder FAR, those of `subnormals` what stands there; the last three are for halves. */
 static int takes(int row, int set)
 {
     int s;
