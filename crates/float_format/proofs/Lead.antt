@@ -41,12 +41,16 @@ lead F m z narrow some few e = found (leading-top 64 m some (omega (arith, pow-m
           below = rw r (omega (arith, hi, whole, mul-assoc 2 (2 ^ j) (2 ^ (F - j))));
         }
 
--- W-207: the shift that the code takes brings the fraction m of a subnormal number to at least 2^F and below 2^(F + 1).
+-- The shift that the code takes brings a significand to at least 2^F and below 2^(F + 1): 0 of a normal number's.
+pub leading-shift : (F m : ℕ) → F < 62 → 0 < m → m < 2 ^ suc F → (2 ^ F ≤ m * 2 ^ leadingShift F m) × (m * 2 ^ leadingShift F m < 2 ^ suc F)
+leading-shift F m narrow some few =
+    let l : Lead F m (leadingZeros 64 m) = lead F m (leadingZeros 64 m) narrow some (omega (arith, few)) refl in
+    (l .from, omega (arith, l .below))
+
+-- W-207: so it does with the fraction m of a subnormal number.
 pub subnormal-shift : (f : Format) (m : ℕ) → InWord f → 0 < m → m < 2 ^ f .fraction
     → (2 ^ f .fraction ≤ m * 2 ^ leadingShift (f .fraction) m) × (m * 2 ^ leadingShift (f .fraction) m < 2 ^ suc (f .fraction))
-subnormal-shift f m w some low =
-    let l : Lead (f .fraction) m (leadingZeros 64 m) = lead (f .fraction) m (leadingZeros 64 m) (sizes f w .fraction-lt) some (omega arith) refl in
-    (l .from, omega (arith, l .below))
+subnormal-shift f m w some low = leading-shift (f .fraction) m (sizes f w .fraction-lt) some (omega (arith, low))
 
 -- at each width: 2^52 and 2^53, 2^23 and 2^24, 2^10 and 2^11
 pub subnormal-shift-64 : (m : ℕ) → 0 < m → m < 2 ^ 52 → (2 ^ 52 ≤ m * 2 ^ leadingShift 52 m) × (m * 2 ^ leadingShift 52 m < 2 ^ 53)

@@ -1,13 +1,19 @@
 -- `remainder_by` meets its contract. Assumes nothing.
 use native.Mathlib.Omega.{arith}
 use borrow.Author.Tests.{leb-true}
+use Rattle.float_format.proofs.Lead.{leading-shift}
 use Rattle.remainder.proofs.Split.{Brought, turns, remainder-back}
 use borrow.Author.Needs.{needs}
 use Rattle.remainder.proofs.remainder_by.Statement.{statement}
 use Rattle.remainder.proofs.remainder_by.Tie as tie
 
 brought : (c : tie.After-leading-shift) → Brought (c .before .before .args .fraction) (c .before .before .args .w) (c .leading-shift .result)
-brought c = record { short = c .leading-shift .ensures .0; from = c .leading-shift .ensures .1; below = c .leading-shift .ensures .2 }
+brought c =
+    let a = c .before .before .args in
+    let p = c .before .before .pre in
+    let s = leading-shift (a .fraction) (a .w) (omega (arith, p .1)) (p .4) (omega (arith, p .5)) in
+    let k = c .leading-shift in
+    record { short = k .ensures .0; from = rw (k .ensures .3) (s .0); below = rw (k .ensures .3) (omega (arith, s .1)) }
 
 power-requires : tie.Need-power-requires
 power-requires c κs = search needs
