@@ -9,6 +9,8 @@ use std::io::Read;
 use std::os::unix::process::ExitStatusExt;
 use std::path::Path;
 use std::process::{Command, ExitStatus, Stdio};
+use std::thread;
+use std::time::Duration;
 
 const SIGPIPE: i32 = 13;
 
@@ -83,6 +85,8 @@ fn a_reader_that_was_never_there() {
             for (mut command, by_signal) in starts(&path) {
                 let mut child = Child::spawn(command.stdout(Stdio::piped()));
                 drop(child.take_output());
+                // A program that another test is just starting has a copy of the pipe until it runs.
+                thread::sleep(Duration::from_millis(50));
                 child.offer(format!("{EXAMPLE}\n").as_bytes());
                 let ended = feed_until_it_ends(&mut child);
                 assert_ended(&program, &path, by_signal, ended, "Broken pipe");
