@@ -50,7 +50,7 @@ typedef struct {
     operands32 floats, wide;
 } data_set;
 
-enum { TEXTURE, MIXED, SUBNORMAL, SPECIAL, FAR, TO_SUBNORMAL, TO_NORMAL, HALF_NORMAL, HALF_SUBNORMAL, HALF_ANY, SETS };
+enum { TEXTURE, MIXED, SUBNORMAL, SPECIAL, FAR, TO_SUBNORMAL, TO_NORMAL, TOP_HEAVY, HALF_NORMAL, HALF_SUBNORMAL, HALF_ANY, SETS };
 
 static data_set sets[SETS] = {
     {.name = "texture-like: x in -4096 to 4096, with fractions; y in 0.5 to 64; n in -16 to 16"},
@@ -60,6 +60,7 @@ static data_set sets[SETS] = {
     {.name = "exponents far apart: x in the top quarter of the exponents, y in the lowest"},
     {.name = "texture-like x; subnormal y, of every size alike; n to a subnormal number"},
     {.name = "subnormal x, of every size alike; n to a normal number"},
+    {.name = "subnormal x and y with random fractions: most have their leading one near the top"},
     {.name = "normal halves; floats that become such"},
     {.name = "subnormal halves; floats that become such"},
     {.name = "any 16 bits; any 32 bits"},
@@ -179,6 +180,9 @@ static void fill(void)
         set = &sets[TO_NORMAL];
         put_subnormal(&set->x64, &set->x32, i);
         put_scale(set, i, (int)(1070 + random_bits() % 16), (int)(145 + random_bits() % 16));
+        set = &sets[TOP_HEAVY];
+        put(&set->x64, &set->x32, i, 0, 0);
+        put(&set->y64, &set->y32, i, 0, 0);
     }
     /* Floats from 2^-14 to 2^15, and from 2^-24 to 2^-14. */
     for (i = 0; i < COUNT; i++) {
@@ -396,6 +400,7 @@ static const struct {
     {"ldexp", "both subnormal", SUBNORMAL, 0.6, 1.6},
     {"fmod", "subnormal divisor", TO_SUBNORMAL, 0.15, 0},
     {"fmod", "both subnormal", SUBNORMAL, 0.15, 0},
+    {"fmod", "both, near the top", TOP_HEAVY, 0.15, 0},
 };
 
 enum { SUBNORMALS = sizeof subnormals / sizeof subnormals[0] };
