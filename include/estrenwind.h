@@ -379,7 +379,7 @@ static inline ew_float ew_fmodf(float x, float y) { return ew_value_word32(ew_fm
  * ew_nextafter returns the neighbour of x towards y. A zero that is reached keeps x's sign.
  *
  * Special cases are:
- *     nextafter(x, y) = y where x equals y
+ *     nextafter(x, y) = y where x equals y, as +0 equals -0
  *     nextafter(±0, y) = the smallest subnormal number, with y's sign
  *     nextafter(x, y) = the first NaN, quieted, where there is one
  *
@@ -391,9 +391,11 @@ static inline ew_double ew_nextafter(double x, double y) { return ew_value_word6
 static inline ew_float ew_nextafterf(float x, float y) { return ew_value_word32(ew_nextafter_f32(ew_bits_f32(x), ew_bits_f32(y))); }
 
 /*
- * ew_fmin returns the lesser of two numbers, ew_fmax the greater, and the first where they are equal, as the two zeros are.
+ * ew_fmin returns the lesser of two numbers, ew_fmax the greater. -0 counts as below +0, so that on numbers both give the same
+ * bits whichever operand comes first, as C23's fminimum_num and fmaximum_num do.
  *
  * Special cases are:
+ *     fmin(+0, -0) = fmin(-0, +0) = -0, fmax(+0, -0) = fmax(-0, +0) = +0
  *     fmin(NaN, y) = y, fmin(x, NaN) = x, where the other is not a NaN
  *     fmin(NaN, NaN) = the first, quieted
  */

@@ -294,4 +294,26 @@ mod tests {
             [x, y].iter().any(infinite)
         });
     }
+
+    /// fmin, fmax and nextafter have a rule for them alone. Every pair of edges is tried, so the edges
+    /// need each zero once.
+    #[test]
+    fn each_zero_is_tried_against_each() {
+        for format in [BINARY64, BINARY32] {
+            let zeros = [0, format.sign_bit()];
+            let edges = edges(&format);
+            assert!(zeros.iter().all(|zero| edges.contains(zero)));
+            let mut random = Random::new(6);
+            let mut met = [[0; 2]; 2];
+            for _ in 0..1_000_000 {
+                let [x, y] = random.pair(&format);
+                if zeros.contains(&x) && zeros.contains(&y) {
+                    let [x, y] = [x, y].map(|zero| format.is_negative(zero) as usize);
+                    met[x][y] += 1;
+                }
+            }
+            let least = met.as_flattened().iter().min();
+            assert!(least >= Some(&100), "{met:?} at {}", format.width());
+        }
+    }
 }

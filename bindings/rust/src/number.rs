@@ -402,21 +402,22 @@ pub fn nextafter<F: Float>(x: F, y: F) -> Answer<F> {
     x.nextafter(y)
 }
 
-/// The lesser of two numbers, the first where they are equal, as the two zeros are. Of a number and a NaN the number; of two NaNs the
-/// first, quieted.
+/// The lesser of two numbers, -0 counting as below +0: on numbers the same bits whichever operand comes first. Of a number and a NaN the
+/// number; of two NaNs the first, quieted.
 ///
 /// ```
 /// assert_eq!(estrenwind::fmin(f64::NAN, 2.0), 2.0);
+/// assert!(estrenwind::fmin(0.0, -0.0f64).is_sign_negative());
 /// ```
 pub fn fmin<F: Float>(x: F, y: F) -> F {
     x.fmin(y)
 }
 
-/// The greater of two numbers, the first where they are equal, as the two zeros are. Of a number and a NaN the number; of two NaNs the
-/// first, quieted.
+/// The greater of two numbers, +0 counting as above -0: on numbers the same bits whichever operand comes first. Of a number and a NaN the
+/// number; of two NaNs the first, quieted.
 ///
 /// ```
-/// assert_eq!(estrenwind::fmax(-0.0f64, 0.0).to_bits(), (-0.0f64).to_bits());
+/// assert!(estrenwind::fmax(-0.0f64, 0.0).is_sign_positive());
 /// ```
 pub fn fmax<F: Float>(x: F, y: F) -> F {
     x.fmax(y)

@@ -86,7 +86,10 @@ fn single_width() {
     same32(fmod(-7.5, 2.0).unwrap(), -1.5);
     same32(nextafter(0.0, -1.0).unwrap(), f32::from_bits(0x80000001));
     same32(fmin(2.0, f32::NAN), 2.0);
-    same32(fmax(-0.0, 0.0), -0.0);
+    same32(fmin(-0.0, 0.0), -0.0);
+    same32(fmin(0.0, -0.0), -0.0);
+    same32(fmax(-0.0, 0.0), 0.0);
+    same32(fmax(0.0, -0.0), 0.0);
     same32(fabs(-1.5), 1.5);
     same32(negate(1.5), -1.5);
     assert_eq!(classify(f32::MIN_POSITIVE / 2.0), Class::Subnormal);

@@ -1,6 +1,6 @@
--- Choosing by the order of numbers, and stepping along it (document 01, "Function rules": nextafter, fmin, fmax). Definitions only;
--- assumes nothing.
-use mathlib.Core.Bool.{Bool, not, _&&_, cond}
+-- Choosing by the order of numbers, and stepping along it (document 01, "Function rules": nextafter, fmin, fmax; W-202: the two zeros in
+-- fmin and fmax). Definitions only; assumes nothing.
+use mathlib.Core.Bool.{Bool, not, _&&_, _||_, cond}
 use Prim.Native.Nat.{ℕ, _+_, _-_}
 use lib.Dec.{eqb}
 use Rattle.float_format.specs.Format.{Format, negative, unsigned, signed, isNan, isInfinite, isZero, quieted}
@@ -13,19 +13,26 @@ same f x y = eqb (above f x + under f y) (above f y + under f x)
 
 -- ---- fmin, fmax
 
--- which operand comes first where one of two is chosen: of equal operands neither does, and the first operand is given
+-- x comes before y where one of the two is chosen: its number is below y's, or x is -0 and y is +0. Nothing else goes by this order.
 abbrev pub before : Format → ℕ → ℕ → Bool
-before f x y = below f x y
+before f x y = below f x y || (isZero f x && negative f x && isZero f y && not (negative f y))
 
--- the second operand where t, else the first; one NaN gives the other operand, two give the first quieted
-abbrev pub chosen : Format → Bool → ℕ → ℕ → ℕ
-chosen f t x y = cond (isNan f x) (cond (isNan f y) (quieted f x) y) (cond (isNan f y) x (cond t y x))
+-- of two numbers the one that comes first, and the one that comes last
+abbrev pub earlier : Format → ℕ → ℕ → ℕ
+earlier f x y = cond (before f y x) y x
+
+abbrev pub later : Format → ℕ → ℕ → ℕ
+later f x y = cond (before f x y) y x
+
+-- r where x and y are numbers; one NaN gives the other operand, two give the first quieted
+abbrev pub pastNans : Format → ℕ → ℕ → ℕ → ℕ
+pastNans f x y r = cond (isNan f x) (cond (isNan f y) (quieted f x) y) (cond (isNan f y) x r)
 
 unfoldable pub fmin : Format → ℕ → ℕ → ℕ
-fmin f x y = chosen f (before f y x) x y
+fmin f x y = pastNans f x y (earlier f x y)
 
 unfoldable pub fmax : Format → ℕ → ℕ → ℕ
-fmax f x y = chosen f (before f x y) x y
+fmax f x y = pastNans f x y (later f x y)
 
 -- ---- nextafter
 

@@ -1,4 +1,5 @@
-// fmin, fmax and nextafter of binary32, f32's patterns. The order is that of numbers: the two zeros are equal.
+// fmin, fmax and nextafter of binary32, f32's patterns. The order is that of numbers. In fmin and fmax
+// -0 comes before +0 besides; in nextafter the two zeros are equal.
 ghost use mathlib.Core.Path.{_≡_};
 ghost use Rattle.float_format.specs.Format.{binary32};
 ghost use Rattle.ordering.specs.Ordering.{fmin, fmax, nextafter, nextafterRefusal};
@@ -7,7 +8,7 @@ use float_format::Word32;
 
 // The smaller of x and y, bit for bit.
 //
-// Special cases are: equal operands give x, zeros of either sign among them; one NaN gives the other operand; two NaNs give x quieted.
+// Special cases are: of two zeros -0 where either is -0; one NaN gives the other operand; two NaNs give x quieted.
 pub fn fmin(x: u32, y: u32) -> u32
     ensures { λ r. ⌜ r ≡ fmin binary32 x y ⌝ }
 {
@@ -21,7 +22,7 @@ pub fn fmin(x: u32, y: u32) -> u32
 
 // The larger of x and y, bit for bit.
 //
-// Special cases are: equal operands give x, zeros of either sign among them; one NaN gives the other operand; two NaNs give x quieted.
+// Special cases are: of two zeros +0 where either is +0; one NaN gives the other operand; two NaNs give x quieted.
 pub fn fmax(x: u32, y: u32) -> u32
     ensures { λ r. ⌜ r ≡ fmax binary32 x y ⌝ }
 {

@@ -1,4 +1,5 @@
-// fmin, fmax and nextafter of binary64, f64's patterns. The order is that of numbers: the two zeros are equal.
+// fmin, fmax and nextafter of binary64, f64's patterns. The order is that of numbers. In fmin and fmax
+// -0 comes before +0 besides; in nextafter the two zeros are equal.
 ghost use mathlib.Core.Path.{_≡_};
 ghost use Rattle.float_format.specs.Format.{binary64};
 ghost use Rattle.ordering.specs.Ordering.{fmin, fmax, nextafter, nextafterRefusal};
@@ -7,7 +8,7 @@ use float_format::Word64;
 
 // The smaller of x and y, bit for bit.
 //
-// Special cases are: equal operands give x, zeros of either sign among them; one NaN gives the other operand; two NaNs give x quieted.
+// Special cases are: of two zeros -0 where either is -0; one NaN gives the other operand; two NaNs give x quieted.
 pub fn fmin(x: u64, y: u64) -> u64
     ensures { λ r. ⌜ r ≡ fmin binary64 x y ⌝ }
 {
@@ -16,7 +17,7 @@ pub fn fmin(x: u64, y: u64) -> u64
 
 // The larger of x and y, bit for bit.
 //
-// Special cases are: equal operands give x, zeros of either sign among them; one NaN gives the other operand; two NaNs give x quieted.
+// Special cases are: of two zeros +0 where either is +0; one NaN gives the other operand; two NaNs give x quieted.
 pub fn fmax(x: u64, y: u64) -> u64
     ensures { λ r. ⌜ r ≡ fmax binary64 x y ⌝ }
 {

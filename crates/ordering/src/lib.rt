@@ -1,15 +1,15 @@
 // Choosing by the order of numbers, and stepping along it: fmin, fmax, nextafter, at each width.
 //
 // The work is done once, with the width open: `fraction` and `exponent` are a format's field sizes, which each width's module hands
-// over as numbers, so that the compiler folds them. Numbers are compared by their ranks, which are whole numbers: a comparison of floats
-// would give other answers where the host takes subnormals for zeros. What is rare is a branch (NaNs, and in nextafter zeros and equal
-// operands); the rest are selects, since a branch on which of two numbers is smaller costs more than it saves.
+// over as numbers, so that the compiler folds them. Numbers are compared as whole numbers, by their patterns in fmin and fmax and by their
+// ranks in nextafter: a comparison of floats would give other answers where the host takes subnormals for zeros. What is rare is a branch
+// (NaNs, and in nextafter zeros and equal operands); the rest are selects, since a branch on which of two numbers is smaller costs more
+// than it saves. fmin and fmax take -0 as below +0; in nextafter the two are equal.
 ghost use mathlib.Core.Path.{_≡_};
 ghost use Prim.Native.Nat.{_*_, _<_};
 ghost use Rattle.float_format.specs.Format.{signBit};
-ghost use Rattle.float_format.specs.Number.{below};
 ghost use Rattle.float_format.specs.Width.{format, InWord};
-ghost use Rattle.ordering.specs.Ordering.{chosen, fmin, fmax, nextafter};
+ghost use Rattle.ordering.specs.Ordering.{earlier, later, pastNans, fmin, fmax, nextafter};
 ghost use Rattle.ordering.specs.Shape.{Operands, Nonzero, moved, refusal};
 use float_format::width::infinity_of;
 use float_format::width::quiet;
@@ -21,22 +21,35 @@ use float_format::width::signed_zero;
 pub mod binary32;
 pub mod binary64;
 
-// ---- the order
-
-// Whether x's number is below y's.
-fn less(fraction: u64, exponent: u64, x: u64, y: u64) -> bool
-    requires { ⌜ Operands (format fraction exponent) x y ⌝ }
-    ensures { λ r. ⌜ r ≡ below (format fraction exponent) x y ⌝ }
-{
-    rank(fraction, exponent, x) < rank(fraction, exponent, y)
-}
-
 // ---- fmin, fmax
 
-// y where `second`, else x; one NaN gives the other operand, two give the first quieted.
-fn chosen(fraction: u64, exponent: u64, second: bool, x: u64, y: u64) -> u64
+// The one of x and y that comes first: the lesser number, and of two zeros -0. Where neither has a minus sign, the lesser pattern is
+// the lesser number; where one has, or both have, the greater pattern is.
+fn earlier(fraction: u64, exponent: u64, x: u64, y: u64) -> u64
     requires { ⌜ Operands (format fraction exponent) x y ⌝ }
-    ensures { λ r. ⌜ (r ≡ chosen (format fraction exponent) second x y) × (r < 2 * signBit (format fraction exponent)) ⌝ }
+    ensures { λ r. ⌜ (r ≡ earlier (format fraction exponent) x y) × (r < 2 * signBit (format fraction exponent)) ⌝ }
+{
+    let sign = sign_bit(fraction, exponent);
+    let low = if x < y { x } else { y };
+    let high = if x < y { y } else { x };
+    if high < sign { low } else { high }
+}
+
+// The other of the two: the greater number, and of two zeros +0.
+fn later(fraction: u64, exponent: u64, x: u64, y: u64) -> u64
+    requires { ⌜ Operands (format fraction exponent) x y ⌝ }
+    ensures { λ r. ⌜ (r ≡ later (format fraction exponent) x y) × (r < 2 * signBit (format fraction exponent)) ⌝ }
+{
+    let sign = sign_bit(fraction, exponent);
+    let low = if x < y { x } else { y };
+    let high = if x < y { y } else { x };
+    if high < sign { high } else { low }
+}
+
+// `word` where x and y are numbers; one NaN gives the other operand, two give the first quieted.
+fn past_nans(fraction: u64, exponent: u64, x: u64, y: u64, word: u64) -> u64
+    requires { ⌜ Operands (format fraction exponent) x y × (word < 2 * signBit (format fraction exponent)) ⌝ }
+    ensures { λ r. ⌜ (r ≡ pastNans (format fraction exponent) x y word) × (r < 2 * signBit (format fraction exponent)) ⌝ }
 {
     let top = infinity_of(fraction, exponent);
     let a = rest(fraction, exponent, x);
@@ -50,21 +63,21 @@ fn chosen(fraction: u64, exponent: u64, second: bool, x: u64, y: u64) -> u64
     if b > top {
         return x;
     }
-    if second { y } else { x }
+    word
 }
 
 fn fmin(fraction: u64, exponent: u64, x: u64, y: u64) -> u64
     requires { ⌜ Operands (format fraction exponent) x y ⌝ }
     ensures { λ r. ⌜ (r ≡ fmin (format fraction exponent) x y) × (r < 2 * signBit (format fraction exponent)) ⌝ }
 {
-    chosen(fraction, exponent, less(fraction, exponent, y, x), x, y)
+    past_nans(fraction, exponent, x, y, earlier(fraction, exponent, x, y))
 }
 
 fn fmax(fraction: u64, exponent: u64, x: u64, y: u64) -> u64
     requires { ⌜ Operands (format fraction exponent) x y ⌝ }
     ensures { λ r. ⌜ (r ≡ fmax (format fraction exponent) x y) × (r < 2 * signBit (format fraction exponent)) ⌝ }
 {
-    chosen(fraction, exponent, less(fraction, exponent, x, y), x, y)
+    past_nans(fraction, exponent, x, y, later(fraction, exponent, x, y))
 }
 
 // ---- nextafter

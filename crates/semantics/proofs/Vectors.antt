@@ -170,6 +170,15 @@ corners =
     ∷ (of 0x18 (doubles 0 0x43e0_0000_0000_0000) gives refused 21)
     ∷ (of 0x18 (doubles 0xc3e0_0000_0000_0000 0) gives ranged (wholes (negsuc 0x7fff_ffff_ffff_ffff) (pos 0)))
     ∷ (of 0x18 (doubles 0 pInf) gives refused 21)
+    -- fmin, fmax: of lows and of highs; of two zeros -0 and +0, on whichever side they stand; a range from +0 to -0 is one
+    ∷ (of-two 0x20 (doubles m2 p2) (doubles m1 p1) gives ranged (doubles m2 p1))
+    ∷ (of-two 0x20 (doubles 0 0) (doubles m0 m0) gives ranged (doubles m0 m0))
+    ∷ (of-two 0x20 (doubles m0 m0) (doubles 0 0) gives ranged (doubles m0 m0))
+    ∷ (of-two 0x20 (doubles 0 m0) (doubles 0 pInf) gives ranged (doubles 0 m0))
+    ∷ (of-two 0x21 (doubles m2 p2) (doubles m1 p1) gives ranged (doubles m1 p2))
+    ∷ (of-two 0x21 (doubles 0 0) (doubles m0 m0) gives ranged (doubles 0 0))
+    ∷ (of-two 0x21 (doubles m0 m0) (doubles 0 0) gives ranged (doubles 0 0))
+    ∷ (of-two 0x21 (doubles mInf m0) (doubles 0 m0) gives ranged (doubles 0 m0))
     -- fmod: by 1 to 2 below 2; what is smaller than the divisor stays; a divisor's range that ends at a zero, or goes across it; an infinite end
     ∷ (of-two 0x22 (doubles mInf p1) (doubles p1 p2) gives refused 20)
     ∷ (of-two 0x22 (doubles m2 p1) (doubles p1 p2) gives ranged (doubles m2 p1))

@@ -139,6 +139,11 @@ mod tests {
     use crate::recipes::RunCall;
     use crate::reference::recipe::Way;
 
+    fn check(call: &RunCall) {
+        let outcome = Outcome::made(call, |words| run(&call.text, &call.frame, words));
+        assert_eq!(outcome, Outcome::expected(Way::Short, call), "{call}");
+    }
+
     /// A race against wrong answers would say nothing.
     #[test]
     fn gives_the_reference_s_answers() {
@@ -147,12 +152,10 @@ mod tests {
             for first in REFUSALS {
                 for second in REFUSALS {
                     for faults in [&[][..], &[first], &[first, second]] {
-                        let (call, _) = damaged::<RunCall>(&mut random, faults);
-                        let outcome =
-                            Outcome::made(&call, |words| run(&call.text, &call.frame, words));
-                        assert_eq!(outcome, Outcome::expected(Way::Short, &call), "{call}");
+                        check(&damaged(&mut random, faults).0);
                     }
                 }
+                check(&random.meeting().run_call());
             }
         }
     }

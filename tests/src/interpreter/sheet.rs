@@ -180,17 +180,23 @@ fn lround(x: f64) -> Result<i64, u64> {
     }
 }
 
-/// Of equal operands the first, unlike `f64::min`.
+/// -0 is below +0, which no comparison tells. Equal numbers have the same bits but for a zero's
+/// sign, which is there if either has it.
 fn fmin(x: f64, y: f64) -> f64 {
-    if x <= y {
+    if x == y {
+        f64::from_bits(x.to_bits() | y.to_bits())
+    } else if x < y {
         x
     } else {
         y
     }
 }
 
+/// Likewise, and the sign is there if both have it.
 fn fmax(x: f64, y: f64) -> f64 {
-    if x >= y {
+    if x == y {
+        f64::from_bits(x.to_bits() & y.to_bits())
+    } else if x > y {
         x
     } else {
         y
@@ -283,6 +289,7 @@ mod tests {
                 }
                 let plan = random.plan();
                 check(&grow(&mut random, &plan).0.sheet_call());
+                check(&random.meeting().sheet_call());
             }
         }
     }

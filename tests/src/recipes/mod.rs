@@ -5,7 +5,7 @@
 //! inputs in them, and `faults` damages them: one fault or two, each at the first, some or the last
 //! place. `reasons` makes recipes that are turned down for chosen reasons. `comparison` holds what
 //! the library makes of a call beside what the reference does, and `walks` is what all calls are
-//! tried on.
+//! tried on. `zeros` holds the rule of W-202 for the zeros in fmin and fmax beside document 01's.
 
 pub mod calls;
 pub mod comparison;
@@ -15,6 +15,7 @@ pub mod limits;
 pub mod reasons;
 pub mod values;
 pub mod walks;
+pub mod zeros;
 
 pub use calls::{Call, ExplainCall, RunCall, SheetCall};
 

@@ -15,7 +15,8 @@ fn units(format: &Format, x: u64) -> Natural {
     }
 }
 
-/// The numeric order of two patterns that are no NaN: the two zeros are equal.
+/// The numeric order of two patterns that are no NaN: the two zeros are equal. nextafter, ranges and
+/// refusals go by it.
 pub fn compare(format: &Format, x: u64, y: u64) -> Ordering {
     let (a, b) = (units(format, x), units(format, y));
     match (format.is_negative(x), format.is_negative(y)) {
@@ -27,36 +28,46 @@ pub fn compare(format: &Format, x: u64, y: u64) -> Ordering {
     }
 }
 
-/// The first operand where the order of first and second is one of these, else the second.
+/// The order by which fmin and fmax choose, of two patterns that are no NaN: the numeric one, with
+/// -0 below +0 (W-202). Two patterns are equal in it only where they are the same, so what is chosen
+/// by it doesn't depend on which of them comes first.
+pub fn compare_zeros_apart(format: &Format, x: u64, y: u64) -> Ordering {
+    match (format.classify(x), format.classify(y)) {
+        (Class::Zero, Class::Zero) => format.is_negative(y).cmp(&format.is_negative(x)),
+        _ => compare(format, x, y),
+    }
+}
+
+/// The operand that has this place beside the other, Less or Greater.
 ///
 /// Special cases are:
 /// - one NaN gives the other operand
 /// - two NaNs give the first, quieted
-fn chosen(format: &Format, x: u64, y: u64, first: [Ordering; 2]) -> u64 {
+fn chosen(format: &Format, x: u64, y: u64, place: Ordering) -> u64 {
     match (format.classify(x), format.classify(y)) {
         (Class::Nan, Class::Nan) => format.quieted(x),
         (Class::Nan, _) => y,
         (_, Class::Nan) => x,
-        _ if first.contains(&compare(format, x, y)) => x,
+        _ if compare_zeros_apart(format, x, y) == place => x,
         _ => y,
     }
 }
 
-/// The smaller operand; of equal ones the first.
+/// The smaller operand, -0 being below +0 in whichever order they come (W-202).
 pub fn fmin(format: &Format, x: u64, y: u64) -> u64 {
-    chosen(format, x, y, [Ordering::Less, Ordering::Equal])
+    chosen(format, x, y, Ordering::Less)
 }
 
-/// The larger operand; of equal ones the first.
+/// The larger operand, -0 being below +0 in whichever order they come (W-202).
 pub fn fmax(format: &Format, x: u64, y: u64) -> u64 {
-    chosen(format, x, y, [Ordering::Greater, Ordering::Equal])
+    chosen(format, x, y, Ordering::Greater)
 }
 
 /// The neighbour of x towards y.
 ///
 /// Special cases are:
 /// - nextafter(NaN, y), nextafter(x, NaN) = the first NaN, quieted
-/// - nextafter(x, y) = y where they are equal
+/// - nextafter(x, y) = y where they are equal, as the two zeros are
 /// - nextafter(±0, y) = the smallest subnormal of y's sign
 /// - a zero reached from a subnormal keeps x's sign
 ///

@@ -1,12 +1,15 @@
 //! The language's own operations on floating-point numbers, on patterns.
 
 use estrenwind_tests::reference::{Format, BINARY32, BINARY64};
+use std::cmp::Ordering;
 
 pub struct Language {
     pub sum: fn(u64, u64) -> u64,
     pub product: fn(u64, u64) -> u64,
     pub remainder: fn(u64, u64) -> u64,
     pub at_most: fn(u64, u64) -> bool,
+    /// The order of all patterns, in which -0 comes before +0.
+    pub order: fn(u64, u64) -> Ordering,
     pub next_up: fn(u64) -> u64,
     pub next_down: fn(u64) -> u64,
 }
@@ -18,6 +21,7 @@ pub fn language(format: &Format) -> Language {
             product: |x, y| (f64::from_bits(x) * f64::from_bits(y)).to_bits(),
             remainder: |x, y| (f64::from_bits(x) % f64::from_bits(y)).to_bits(),
             at_most: |x, y| f64::from_bits(x) <= f64::from_bits(y),
+            order: |x, y| f64::from_bits(x).total_cmp(&f64::from_bits(y)),
             next_up: |x| f64::from_bits(x).next_up().to_bits(),
             next_down: |x| f64::from_bits(x).next_down().to_bits(),
         },
@@ -26,6 +30,7 @@ pub fn language(format: &Format) -> Language {
             product: |x, y| (narrow(x) * narrow(y)).to_bits().into(),
             remainder: |x, y| (narrow(x) % narrow(y)).to_bits().into(),
             at_most: |x, y| narrow(x) <= narrow(y),
+            order: |x, y| narrow(x).total_cmp(&narrow(y)),
             next_up: |x| narrow(x).next_up().to_bits().into(),
             next_down: |x| narrow(x).next_down().to_bits().into(),
         },

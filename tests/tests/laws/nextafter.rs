@@ -45,3 +45,25 @@ fn nextafter_is_the_language_s_next_number() {
         }
     }
 }
+
+/// W-202 tells them apart in fmin and fmax alone: here a zero is as far from every y as the other.
+#[test]
+fn to_nextafter_the_two_zeros_are_equal() {
+    for format in FORMATS {
+        let nextafter = library("nextafter", &format);
+        let (plus, minus) = (0, format.sign_bit());
+        for x in [plus, minus] {
+            for y in [plus, minus] {
+                assert_eq!(nextafter(x, y), Answer::word(y), "{x:x} {y:x}");
+            }
+        }
+        for [x, _] in cases("nextafter", &format) {
+            let towards = [plus, minus].map(|zero| nextafter(x, zero));
+            let from = [plus, minus].map(|zero| nextafter(zero, x));
+            if format.classify(x) != Class::Zero {
+                assert_eq!(towards[0], towards[1], "{x:x} towards zero");
+            }
+            assert_eq!(from[0], from[1], "zero towards {x:x}");
+        }
+    }
+}

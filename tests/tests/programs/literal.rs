@@ -1,4 +1,4 @@
-//! Files written out, with answers read off document 01 and request W-205 by hand.
+//! Files written out, with answers read off document 01 and requests W-202 and W-205 by hand.
 
 use crate::{EXPLAIN, OF_RECIPES, RUN, SHEET};
 
@@ -42,6 +42,45 @@ fn the_example_of_document_01() {
     SHEET.prints(EXAMPLE, SHEET_OF_EXAMPLE);
     let input = format!("{EXAMPLE}\nbfe0000000000000\n401e000000000000\n");
     RUN.prints(input, "02ffffffffffffffff\nff2000\n");
+}
+
+/// W-202: "fmin takes -0 as below +0, and fmax likewise, in whichever order they come".
+#[test]
+fn the_zeros_in_fmin_and_fmax() {
+    // From +0 to 2, and from -0 to 3.
+    let inputs = "01000000000000000000004000000000000000\n\
+                  01000080000000000000004008000000000000\n";
+    let ranges = "000100000000000000004000000000000000\n\
+                  010180000000000000004008000000000000\n";
+    let frames = "00000000000000008000000000000000\n\
+                  80000000000000000000000000000000\n";
+    for (step, range, answer) in [
+        (
+            "200001",
+            "80000000000000004000000000000000",
+            "018000000000000000\n",
+        ),
+        (
+            "200100",
+            "80000000000000004000000000000000",
+            "018000000000000000\n",
+        ),
+        (
+            "210001",
+            "00000000000000004008000000000000",
+            "010000000000000000\n",
+        ),
+        (
+            "210100",
+            "00000000000000004008000000000000",
+            "010000000000000000\n",
+        ),
+    ] {
+        let recipe = format!("{inputs}{step}{:032}\n", 0);
+        SHEET.prints(&recipe, &format!("{ranges}0201{range}\n"));
+        EXPLAIN.prints(&recipe, "00\n");
+        RUN.prints(format!("{recipe}\n{frames}"), &answer.repeat(2));
+    }
 }
 
 /// "The step, the operand's step and a reason code, two hex digits each, run together. .. A passed

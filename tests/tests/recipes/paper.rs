@@ -1,4 +1,4 @@
-//! What document 01 prints.
+//! What document 01 prints, and what W-202 says of the zeros in fmin and fmax.
 
 use estrenwind_tests::library::RunAnswer;
 use estrenwind_tests::recipes::comparison::check;
@@ -149,6 +149,48 @@ fn what_is_turned_down_and_with_which_number() {
     ] {
         let outcome = check(Way::Exact, &call(text, frame));
         assert_eq!(outcome.answer, answer, "{text}{frame}");
+    }
+}
+
+/// W-202: -0 is below +0 in fmin and fmax, "in whichever order they come". Whether an input lies in
+/// its range, and whether a divisor is zero, is still asked of numbers.
+#[test]
+fn the_zeros_in_fmin_and_fmax() {
+    const ZEROS: &str = "\
+01000000000000000000004000000000000000
+01000080000000000000004008000000000000
+20000100000000000000000000000000000000
+20010000000000000000000000000000000000
+21000100000000000000000000000000000000
+21010000000000000000000000000000000000
+17020000000000000000000000000000000000
+16020000000000000000000000000000000000
+";
+    const PLUS: u64 = 0;
+    const MINUS: u64 = 1 << 63;
+    const ONE: u64 = 0x3ff0000000000000;
+    // Both inputs, fmin and fmax of them, and fmin's negation and magnitude.
+    for ([x, y], least, greatest, negated, magnitude) in [
+        ([PLUS, MINUS], MINUS, PLUS, PLUS, PLUS),
+        ([MINUS, PLUS], MINUS, PLUS, PLUS, PLUS),
+        ([PLUS, PLUS], PLUS, PLUS, MINUS, PLUS),
+        ([MINUS, MINUS], MINUS, MINUS, PLUS, PLUS),
+        ([ONE, MINUS], MINUS, ONE, PLUS, PLUS),
+        ([PLUS, ONE], PLUS, ONE, MINUS, PLUS),
+        ([ONE, ONE], ONE, ONE, ONE | MINUS, ONE),
+    ] {
+        let frame = format!("{x:016x}{y:016x}");
+        let outcome = check(Way::Exact, &call(ZEROS, &frame));
+        assert_eq!(outcome.answer, completed(1, magnitude), "{frame}");
+        let words = [x, y, least, least, greatest, greatest, negated, magnitude];
+        assert_eq!(outcome.memory[..8], words, "{frame}");
+        let divided = format!("{ZEROS}220002{:032}\n", 0);
+        let answer = match magnitude {
+            PLUS => refused(20, 8),
+            _ => completed(1, PLUS),
+        };
+        let outcome = check(Way::Exact, &call(&divided, &frame));
+        assert_eq!(outcome.answer, answer, "{frame}");
     }
 }
 

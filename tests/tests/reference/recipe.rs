@@ -74,19 +74,25 @@ fn whole_numbers_are_the_doubles_that_stand_for_them() {
     }
 }
 
-/// Of calls with every fault, with every pair of faults, and without one.
+/// Of calls with every fault, with every pair of faults, and without one; and of recipes in which
+/// zeros of both signs meet.
 pub fn both_ways_give_the_same<C: Call>(seed: u64) {
+    let check = |call: &C| {
+        let [exact, short] = [Way::Exact, Way::Short].map(|way| call.reference(way));
+        assert_eq!(exact, short, "{call}");
+    };
     let mut random = Random::new(seed);
     for &first in C::REFUSALS {
         for &second in C::REFUSALS {
             for faults in [&[][..], &[first], &[first, second]] {
                 for _ in 0..8 {
-                    let (call, _) = damaged::<C>(&mut random, faults);
-                    let [exact, short] = [Way::Exact, Way::Short].map(|way| call.reference(way));
-                    assert_eq!(exact, short, "{call}");
+                    check(&damaged(&mut random, faults).0);
                 }
             }
         }
+    }
+    for _ in 0..2_000 {
+        check(&C::of(&random.meeting()));
     }
 }
 

@@ -1,4 +1,4 @@
-//! What document 01 prints.
+//! What document 01 prints, and what W-202 says of the zeros in fmin and fmax.
 
 use crate::BEFORE;
 use estrenwind_tests::library::SheetAnswer;
@@ -50,6 +50,47 @@ fn the_example_s_sheet_is_as_printed() {
         let filled = call.filled();
         assert_eq!(outcome.memory[..BEFORE], filled[..BEFORE]);
         assert_eq!(outcome.memory[end..], filled[end..]);
+    }
+}
+
+/// From +0 to 2 and from -0 to 3, fmin and fmax in both orders, fmin's negation and magnitude.
+const ZEROS: &str = "\
+01000000000000000000004000000000000000
+01000080000000000000004008000000000000
+20000100000000000000000000000000000000
+20010000000000000000000000000000000000
+21000100000000000000000000000000000000
+21010000000000000000000000000000000000
+17020000000000000000000000000000000000
+16020000000000000000000000000000000000
+";
+
+const ZEROS_SHEET: &str = "\
+000100000000000000004000000000000000
+010180000000000000004008000000000000
+020180000000000000004000000000000000
+030180000000000000004000000000000000
+040100000000000000004008000000000000
+050100000000000000004008000000000000
+0601c0000000000000000000000000000000
+070100000000000000004000000000000000
+";
+
+/// W-202: "Ranges on sheets are still compared as numbers", so fmin's range, from -0, isn't below
+/// zero: its magnitudes start at +0, and as a divisor it holds zero as before.
+#[test]
+fn the_zeros_in_fmin_and_fmax() {
+    let outcome = check(Way::Exact, &call(ZEROS));
+    assert_eq!(outcome.answer, passed(8));
+    let shown = &outcome.memory[BEFORE..][..ZEROS_SHEET.len()];
+    assert_eq!(
+        shown.escape_ascii().to_string(),
+        ZEROS_SHEET.escape_default().to_string()
+    );
+    for divisor in 0..8 {
+        let text = format!("{ZEROS}2200{divisor:02x}{:032}\n", 0);
+        let outcome = check(Way::Exact, &call(&text));
+        assert_eq!(outcome.answer, refused(20, 8), "by step {divisor}");
     }
 }
 

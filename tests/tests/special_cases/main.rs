@@ -1,4 +1,5 @@
-//! The special cases that the sources publish, and what document 01 says where they leave a choice.
+//! The special cases that the sources publish, and what document 01 and the requests after it say
+//! where they leave a choice.
 //!
 //! Sources 000, 001, 003 and 004 are about ceil, nearbyint and round. Of the other functions the
 //! sources have the C wording alone, source 002; the special cases of C99's annex F, which it

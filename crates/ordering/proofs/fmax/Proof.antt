@@ -1,22 +1,23 @@
--- `fmax` meets its contract: the choice by the order's test. Assumes nothing.
+-- `fmax` meets its contract: past the NaNs, the one that comes last. Assumes nothing.
 use Rattle.float_format.specs.Width.{format}
-use Rattle.ordering.specs.Ordering.{before, fmax}
-use Rattle.ordering.proofs.MinMax.{chosen-by}
+use Rattle.ordering.specs.Ordering.{later, fmax}
+use Rattle.ordering.proofs.MinMax.{past-by}
 use borrow.Author.Needs.{needs}
 use Rattle.ordering.proofs.fmax.Statement.{statement}
 use Rattle.ordering.proofs.fmax.Tie as tie
 
-less-requires : tie.Need-less-requires
-less-requires c κs = search needs
+later-requires : tie.Need-later-requires
+later-requires c κs = search needs
 
-chosen-requires : tie.Need-chosen-requires
-chosen-requires c κs = search needs
+past-nans-requires : tie.Need-past-nans-requires
+past-nans-requires c κs = search needs
 
 returns : tie.Need-returns
 unfolding fmax
 returns c =
     let a = c .before .before .args in
-    (chosen-by (format (a .fraction) (a .exponent)) (c .before .less .result) (before (format (a .fraction) (a .exponent)) (a .x) (a .y)) (a .x) (a .y) (c .chosen .result) (c .before .less .ensures) (c .chosen .ensures .0), c .chosen .ensures .1)
+    let f = format (a .fraction) (a .exponent) in
+    (past-by f (a .x) (a .y) (c .before .later .result) (later f (a .x) (a .y)) (c .past-nans .result) (c .before .later .ensures .0) (c .past-nans .ensures .0), c .past-nans .ensures .1)
 
 pub fmax-spec : {M : Type 1} → statement M
-fmax-spec = tie.close (tie.spec less-requires chosen-requires returns)
+fmax-spec = tie.close (tie.spec later-requires past-nans-requires returns)

@@ -7,7 +7,8 @@ use crate::recipes::faults::damaged;
 use crate::recipes::Call;
 use crate::reference::recipe::Way;
 
-/// Calls that are answered and calls with a fault, by turns.
+/// Calls that are answered, calls with a fault, and recipes in which zeros of both signs meet, by
+/// turns.
 fn calls<C: Call>(seed: u64, rounds: usize) -> Vec<C> {
     let mut random = Random::new(seed);
     let mut calls = Vec::new();
@@ -15,6 +16,7 @@ fn calls<C: Call>(seed: u64, rounds: usize) -> Vec<C> {
         for &fault in C::REFUSALS {
             calls.push(damaged(&mut random, &[]).0);
             calls.push(damaged(&mut random, &[fault]).0);
+            calls.push(C::of(&random.meeting()));
         }
     }
     calls

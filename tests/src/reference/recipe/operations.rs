@@ -19,15 +19,19 @@ pub enum Way {
     Exact,
     /// The same answers at speed.
     Short,
+    /// The short ones, but fmin and fmax as document 01 has them without W-202: of equal operands,
+    /// as the two zeros are, the first.
+    FirstOfEqual,
 }
 
 /// A function of one or two words; one that isn't used is 0.
 pub type Words = fn(u64, u64) -> Answer;
 
-/// How a step gets its value from those at A and B, both ways, and its range from theirs.
+/// How a step gets its value from those at A and B, each way, and its range from theirs.
 pub struct Function {
     exact: Words,
     short: Words,
+    first_of_equal: Words,
     /// The number with which the step is refused where the function is.
     refusal: u64,
     rule: Rule,
@@ -39,6 +43,7 @@ impl Function {
         let answer = match way {
             Way::Exact => (self.exact)(a, b),
             Way::Short => (self.short)(a, b),
+            Way::FirstOfEqual => (self.first_of_equal)(a, b),
         };
         match answer.refusal {
             0 => Ok(answer.words[0]),
@@ -133,7 +138,9 @@ impl Kind {
     pub fn compare(self, way: Way, x: u64, y: u64) -> Ordering {
         match (self, way) {
             (Kind::Double, Way::Exact) => order::compare(&BINARY64, x, y),
-            (Kind::Double, Way::Short) => BINARY64.rank(x).cmp(&BINARY64.rank(y)),
+            (Kind::Double, Way::Short | Way::FirstOfEqual) => {
+                BINARY64.rank(x).cmp(&BINARY64.rank(y))
+            }
             (Kind::Whole, _) => (x as i64).cmp(&(y as i64)),
         }
     }
@@ -181,6 +188,7 @@ const fn refusing(refusal: u64, rule: Rule, exact: Words, short: Words) -> Funct
     Function {
         exact,
         short,
+        first_of_equal: short,
         refusal,
         rule,
     }
@@ -189,6 +197,14 @@ const fn refusing(refusal: u64, rule: Rule, exact: Words, short: Words) -> Funct
 /// A function that never refuses.
 const fn always(rule: Rule, exact: Words, short: Words) -> Function {
     refusing(0, rule, exact, short)
+}
+
+/// fmin or fmax, which never refuse, and which W-202 changed.
+const fn choosing(exact: Words, short: Words, first_of_equal: Words) -> Function {
+    Function {
+        first_of_equal,
+        ..always(ranges::of_ends, exact, short)
+    }
 }
 
 use Kind::{Double, Whole};
@@ -236,13 +252,15 @@ pub static OPERATIONS: [Operation; 20] = [
         |a, _| rounding::lround(&BINARY64, a),
         |a, _| short::rounding::lround(&BINARY64, a),
     )),
-    two(0x20, [Double, Double], Double, always(ranges::of_ends,
+    two(0x20, [Double, Double], Double, choosing(
         |a, b| Answer::word(order::fmin(&BINARY64, a, b)),
         |a, b| Answer::word(short::order::fmin(&BINARY64, a, b)),
+        |a, b| Answer::word(short::first_of_equal::fmin(&BINARY64, a, b)),
     )),
-    two(0x21, [Double, Double], Double, always(ranges::of_ends,
+    two(0x21, [Double, Double], Double, choosing(
         |a, b| Answer::word(order::fmax(&BINARY64, a, b)),
         |a, b| Answer::word(short::order::fmax(&BINARY64, a, b)),
+        |a, b| Answer::word(short::first_of_equal::fmax(&BINARY64, a, b)),
     )),
     two(0x22, [Double, Double], Double, refusing(20, ranges::of_remainder,
         |a, b| fmod::fmod(&BINARY64, a, b),

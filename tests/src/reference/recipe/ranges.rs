@@ -145,6 +145,7 @@ pub fn scaling_powers(way: Way, a: Range, b: Range) -> [u64; 2] {
     [by_low, by_high]
 }
 
+/// As numbers: that fmin and fmax tell the zeros apart (W-202) changes no comparison of a rule.
 fn compare(way: Way, x: u64, y: u64) -> Ordering {
     Kind::Double.compare(way, x, y)
 }
@@ -162,6 +163,7 @@ fn fmin(way: Way, x: u64, y: u64) -> u64 {
     match way {
         Way::Exact => order::fmin(&BINARY64, x, y),
         Way::Short => short::order::fmin(&BINARY64, x, y),
+        Way::FirstOfEqual => short::first_of_equal::fmin(&BINARY64, x, y),
     }
 }
 
@@ -169,5 +171,6 @@ fn fmax(way: Way, x: u64, y: u64) -> u64 {
     match way {
         Way::Exact => order::fmax(&BINARY64, x, y),
         Way::Short => short::order::fmax(&BINARY64, x, y),
+        Way::FirstOfEqual => short::first_of_equal::fmax(&BINARY64, x, y),
     }
 }

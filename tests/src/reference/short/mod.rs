@@ -3,9 +3,11 @@
 //! Same definitions as beside this folder, where the authority stays. The difference: a power of
 //! two that the numbers of a division have in common is cancelled before it, so that what is left
 //! fits a machine word, and patterns are compared and counted in place of the numbers they stand
-//! for. The tests hold the two against each other.
+//! for. The tests hold the two against each other. `first_of_equal` alone has other answers: those
+//! from before W-202.
 
 pub mod conversion;
+pub mod first_of_equal;
 pub mod fmod;
 pub mod ldexp;
 pub mod order;

@@ -4,24 +4,31 @@ use crate::answer::Answer;
 use crate::reference::{Class, Format};
 use std::cmp::Ordering;
 
-pub fn fmin(format: &Format, x: u64, y: u64) -> u64 {
+/// A number that orders patterns as fmin and fmax do, -0 below +0 (W-202): the rank, and one less
+/// for a pattern with a sign, so that -0 is -1 and what is below it makes room.
+const fn rank_zeros_apart(format: &Format, x: u64) -> i64 {
+    format.rank(x) - format.is_negative(x) as i64
+}
+
+/// Of two numbers x where `takes_x`, else y; one NaN gives the other operand, two the first quieted.
+pub(super) fn chosen(format: &Format, x: u64, y: u64, takes_x: impl FnOnce() -> bool) -> u64 {
     match (format.classify(x), format.classify(y)) {
         (Class::Nan, Class::Nan) => format.quieted(x),
         (Class::Nan, _) => y,
         (_, Class::Nan) => x,
-        _ if format.rank(x) <= format.rank(y) => x,
+        _ if takes_x() => x,
         _ => y,
     }
 }
 
+pub fn fmin(format: &Format, x: u64, y: u64) -> u64 {
+    let [a, b] = [x, y].map(|x| rank_zeros_apart(format, x));
+    chosen(format, x, y, || a < b)
+}
+
 pub fn fmax(format: &Format, x: u64, y: u64) -> u64 {
-    match (format.classify(x), format.classify(y)) {
-        (Class::Nan, Class::Nan) => format.quieted(x),
-        (Class::Nan, _) => y,
-        (_, Class::Nan) => x,
-        _ if format.rank(x) >= format.rank(y) => x,
-        _ => y,
-    }
+    let [a, b] = [x, y].map(|x| rank_zeros_apart(format, x));
+    chosen(format, x, y, || a > b)
 }
 
 pub fn nextafter(format: &Format, x: u64, y: u64) -> Answer {

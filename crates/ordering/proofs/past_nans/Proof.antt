@@ -1,14 +1,14 @@
--- `chosen` meets its contract: each return is one case of the definition, by the tests that led there. Assumes nothing.
-use mathlib.Core.Path.{_≡_, sym, ap, _∙_}
-use mathlib.Core.Bool.{Bool, true, false, cond}
+-- `past_nans` meets its contract: each return is one case of the definition, by the tests that led there. Assumes nothing.
+use mathlib.Core.Path.{_≡_, sym, _∙_}
+use mathlib.Core.Bool.{true, false}
 use native.Mathlib.Omega.{arith}
 use Rattle.float_format.specs.Format.{Format, isNan}
 use Rattle.float_format.specs.Width.{format}
 use Rattle.ordering.proofs.Ranks.{nan-where, number-where}
-use Rattle.ordering.proofs.MinMax.{chosen-nans, chosen-first-nan, chosen-second-nan, chosen-numbers}
+use Rattle.ordering.proofs.MinMax.{past-both, past-first, past-second, past-none}
 use borrow.Author.Needs.{needs}
-use Rattle.ordering.proofs.chosen.Statement.{statement}
-use Rattle.ordering.proofs.chosen.Tie as tie
+use Rattle.ordering.proofs.past_nans.Statement.{statement}
+use Rattle.ordering.proofs.past_nans.Tie as tie
 
 -- the format
 abbrev at : tie.Start → Format
@@ -40,32 +40,27 @@ returns : tie.Need-returns
 returns c =
     let s = c .before .before .before .before .before .before in
     let y : isNan (at s) (s .args .y) ≡ true = nan-where _ _ (omega (arith, c .before .if2 .taken, c .before .before .before .rest2 .ensures, c .before .before .before .before .before .infinity-of .ensures)) in
-    (c .quiet .ensures .0 ∙ sym (chosen-nans (at s) (s .args .second) (s .args .x) (s .args .y) (nan-x (c .before .before)) y), c .quiet .ensures .1)
+    (c .quiet .ensures .0 ∙ sym (past-both (at s) (s .args .x) (s .args .y) (s .args .word) (nan-x (c .before .before)) y), c .quiet .ensures .1)
 
 returns-2 : tie.Need-returns-2
 returns-2 c =
     let s = c .before .before .before .before .before in
     let y : isNan (at s) (s .args .y) ≡ false = number-where _ _ (omega (arith, c .if2 .left, c .before .before .rest2 .ensures, c .before .before .before .before .infinity-of .ensures)) in
-    (sym (chosen-first-nan (at s) (s .args .second) (s .args .x) (s .args .y) (nan-x (c .before)) y), s .pre .second)
+    (sym (past-first (at s) (s .args .x) (s .args .y) (s .args .word) (nan-x (c .before)) y), s .pre .0 .second)
 
 returns-3 : tie.Need-returns-3
 returns-3 c =
     let s = c .before .before .before .before .before in
     let y : isNan (at s) (s .args .y) ≡ true = nan-where _ _ (omega (arith, c .if3 .taken, c .before .before .rest2 .ensures, c .before .before .before .before .infinity-of .ensures)) in
-    (sym (chosen-second-nan (at s) (s .args .second) (s .args .x) (s .args .y) (number-x (c .before)) y), s .pre .first)
+    (sym (past-second (at s) (s .args .x) (s .args .y) (s .args .word) (number-x (c .before)) y), s .pre .0 .first)
 
 returns-4 : tie.Need-returns-4
 returns-4 c =
-    let s = c .before .before .before .before .before .before in
-    (sym (chosen-numbers (at s) (s .args .second) (s .args .x) (s .args .y) (number-x (c .before .before)) (number-y (c .before)) ∙ ap (λ (t : Bool). cond t (s .args .y) (s .args .x)) (c .if4 .taken)), s .pre .second)
+    let s = c .before .before .before .before .before in
+    (sym (past-none (at s) (s .args .x) (s .args .y) (s .args .word) (number-x (c .before)) (number-y c)), s .pre .1)
 
-returns-5 : tie.Need-returns-5
-returns-5 c =
-    let s = c .before .before .before .before .before .before in
-    (sym (chosen-numbers (at s) (s .args .second) (s .args .x) (s .args .y) (number-x (c .before .before)) (number-y (c .before)) ∙ ap (λ (t : Bool). cond t (s .args .y) (s .args .x)) (c .if4 .left)), s .pre .first)
-
-pub chosen-spec : {M : Type 1} → statement M
-chosen-spec =
+pub past-nans-spec : {M : Type 1} → statement M
+past-nans-spec =
     tie.close
     (tie.spec
     infinity-of-requires
@@ -75,5 +70,4 @@ chosen-spec =
     returns
     returns-2
     returns-3
-    returns-4
-    returns-5)
+    returns-4)
