@@ -96,7 +96,15 @@ build/halves: tests/c/halves.c $(LIBRARY) $(HEADER)
 	@$(call need,$(CC),compile the C tests)
 	$(CC) -std=c99 $(CFLAGS) $(WARNINGS) -Ibuild tests/c/halves.c $(LIBRARY) -lm -o $@
 
-test-c: build test-readable build/halves  ## compile the header as C99 and C++11, check the marked cases, hold halves beside the processor's, read the machine code, measure the stack
+# fmin and fmax beside glibc's and the processor's. The compiler must call the C library's, and not work them out by itself.
+build/peers: tests/c/peers.c $(LIBRARY) $(HEADER)
+	@$(call need,$(CC),compile the C tests)
+	$(CC) -std=c99 $(CFLAGS) -fno-builtin $(WARNINGS) -Ibuild tests/c/peers.c $(LIBRARY) -lm -o $@
+
+test-peers: build/peers  ## hold fmin and fmax beside glibc's and the processor's own, on 120 million pairs
+	build/peers
+
+test-c: build test-readable build/halves test-peers  ## compile the header as C99 and C++11, check the marked cases, hold halves, fmin and fmax beside others', read the machine code, measure the stack
 	@$(call need,$(CC),compile the C tests)
 	@$(call need,objdump,read the machine code (binutils))
 	$(CC) -std=c99 $(CFLAGS) $(WARNINGS) -Ibuild tests/c/compile.c $(LIBRARY) -lm -o build/compile-c
@@ -138,6 +146,10 @@ test-processors: build  ## the same answers on this processor and on two emulate
 	tests/target/release/recipe_cases input >build/processors.d/input
 	$(CC) -std=gnu99 $(CFLAGS) $(WARNINGS) -fno-builtin -static -Ibuild tests/c/processors.c $(LIBRARY) -lm -o build/processors
 	sh tests/c/processors.sh build
+
+zero-rules: build  ## W-202's rule for the two zeros beside the one before it, over recipes: where a zero's sign differs, with examples
+	@$(call need,cargo,build the second implementation)
+	@cargo run --quiet $(CARGO_TESTS) --bin zero_rules
 
 processors-deps:  ## install the emulator for test-processors (Debian, as root)
 	@$(call need,apt-get,install packages)
@@ -186,5 +198,5 @@ fmt:  ## put Rattle and Rust sources in their layout
 clean:  ## remove everything that was built
 	rm -rf build target tests/target bindings/rust/target
 
-.PHONY: help build demo roundings install uninstall test test-c test-readable test-rust test-bindings test-install test-processors processors-deps faults-deps \
+.PHONY: help build demo roundings install uninstall test test-c test-peers test-readable test-rust test-bindings test-install test-processors zero-rules processors-deps faults-deps \
 	test-endless test-exhaustive bench bench-deps fmt clean
