@@ -50,7 +50,7 @@ fn shown_and_answered(example: &Path, recipe: &str, sheet: &str, answers: &str) 
 
 #[test]
 fn sheets_explanations_and_answers_are_the_reference_s() {
-    assert_eq!(examples().len(), 7);
+    assert_eq!(examples().len(), 8);
     for example in examples() {
         shown_and_answered(&example, "recipe", "sheet", "answers");
         let explained = text(explain_output(
@@ -112,6 +112,19 @@ fn every_line_is_explained() {
             shows(&example, &[line, other]);
         }
     }
+}
+
+/// What the README of the two zeros says of its step 2 with the operands exchanged.
+#[test]
+fn exchanged_operands_of_fmin_give_the_same_answers() {
+    let folder = Path::new(env!("CARGO_MANIFEST_DIR")).join("../examples/two_zeros");
+    let [recipe, frames, answers] = ["recipe", "frames", "answers"].map(|name| read(&folder, name));
+    let [written, exchanged] = ["200001", "200100"].map(|line| format!("{line:0<38}"));
+    assert!(read(&folder, "README.md").contains(&exchanged));
+    let recipe = recipe.replace(&written, &exchanged);
+    assert!(recipe.contains(&exchanged));
+    let input = format!("{recipe}\n{frames}");
+    assert_eq!(text(run_output(Way::Exact, input.as_bytes())), answers);
 }
 
 /// What the README of the recipe that is turned down advises: to declare the width from 1, or to

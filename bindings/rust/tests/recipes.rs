@@ -59,7 +59,7 @@ fn the_examples() {
             assert_eq!(answer, expected);
         }
     }
-    assert_eq!(found, 7);
+    assert_eq!(found, 8);
 }
 
 #[test]
