@@ -41,13 +41,13 @@ LIBM(fmaximum_num)
 #endif
 #endif
 
-#define PROCESSOR(name)                                                                                                               \
-    static uint64_t name##sd(uint64_t x, uint64_t y)                                                                                  \
-    {                                                                                                                                 \
-        return ew_bits_f64(_mm_cvtsd_f64(_mm_##name##_sd(_mm_set_sd(ew_value_f64(x)), _mm_set_sd(ew_value_f64(y)))));                 \
-    }                                                                                                                                 \
-    static uint64_t name##ss(uint64_t x, uint64_t y)                                                                                  \
-    {                                                                                                                                 \
+#define PROCESSOR(name)                                                                                                                  \
+    static uint64_t processor_##name##_64(uint64_t x, uint64_t y)                                                                        \
+    {                                                                                                                                    \
+        return ew_bits_f64(_mm_cvtsd_f64(_mm_##name##_sd(_mm_set_sd(ew_value_f64(x)), _mm_set_sd(ew_value_f64(y)))));                    \
+    }                                                                                                                                    \
+    static uint64_t processor_##name##_32(uint64_t x, uint64_t y)                                                                        \
+    {                                                                                                                                    \
         return ew_bits_f32(_mm_cvtss_f32(_mm_##name##_ss(_mm_set_ss(ew_value_f32((uint32_t)x)), _mm_set_ss(ew_value_f32((uint32_t)y))))); \
     }
 PROCESSOR(min)
@@ -59,7 +59,8 @@ typedef struct {
     int bits, fraction;
 } width;
 
-static const width widths[] = {{64, 52}, {32, 23}};
+enum { WIDTHS = 2 };
+static const width widths[WIDTHS] = {{64, 52}, {32, 23}};
 
 static uint64_t sign_of(const width *w) { return UINT64_C(1) << (w->bits - 1); }
 static uint64_t unit_of(const width *w) { return UINT64_C(1) << w->fraction; }
@@ -74,33 +75,23 @@ static int is_zero(const width *w, uint64_t x) { return rest_of(w, x) == 0; }
 /* What is asked of a pair: the same bits; the same number, signaling NaNs left out; the same number, NaNs left out. */
 typedef enum { BITS, NUMBERS, NUMBERS_ALONE } demand;
 
+/* The names and functions at each width. */
 typedef struct {
-    const char *name;
-    choice *ours, *theirs;
+    const char *names[WIDTHS];
+    choice *ours[WIDTHS], *theirs[WIDTHS];
     demand asked;
 } peer;
 
-static const peer peers[][6] = {
-    {
+#define BOTH(name) {name##_64, name##_32}
+static const peer peers[] = {
 #ifdef HAS_NUM
-        {"fminimum_num", ours_fmin_64, fminimum_num_64, BITS},
-        {"fmaximum_num", ours_fmax_64, fmaximum_num_64, BITS},
+    {{"fminimum_num", "fminimum_numf"}, BOTH(ours_fmin), BOTH(fminimum_num), BITS},
+    {{"fmaximum_num", "fmaximum_numf"}, BOTH(ours_fmax), BOTH(fmaximum_num), BITS},
 #endif
-        {"fmin", ours_fmin_64, fmin_64, NUMBERS},
-        {"fmax", ours_fmax_64, fmax_64, NUMBERS},
-        {"minsd", ours_fmin_64, minsd, NUMBERS_ALONE},
-        {"maxsd", ours_fmax_64, maxsd, NUMBERS_ALONE},
-    },
-    {
-#ifdef HAS_NUM
-        {"fminimum_numf", ours_fmin_32, fminimum_num_32, BITS},
-        {"fmaximum_numf", ours_fmax_32, fmaximum_num_32, BITS},
-#endif
-        {"fminf", ours_fmin_32, fmin_32, NUMBERS},
-        {"fmaxf", ours_fmax_32, fmax_32, NUMBERS},
-        {"minss", ours_fmin_32, minss, NUMBERS_ALONE},
-        {"maxss", ours_fmax_32, maxss, NUMBERS_ALONE},
-    },
+    {{"fmin", "fminf"}, BOTH(ours_fmin), BOTH(fmin), NUMBERS},
+    {{"fmax", "fmaxf"}, BOTH(ours_fmax), BOTH(fmax), NUMBERS},
+    {{"minsd", "minss"}, BOTH(ours_fmin), BOTH(processor_min), NUMBERS_ALONE},
+    {{"maxsd", "maxss"}, BOTH(ours_fmax), BOTH(processor_max), NUMBERS_ALONE},
 };
 
 static unsigned long long compared, other_zeros, differences;
@@ -111,15 +102,16 @@ static int same_number(const width *w, uint64_t x, uint64_t y, uint64_t a, uint6
     return a == b || (is_zero(w, x) && is_zero(w, y) && is_zero(w, a) && is_zero(w, b));
 }
 
-static void check(const width *w, const peer *p, uint64_t x, uint64_t y)
+static void check(int at, const peer *p, uint64_t x, uint64_t y)
 {
+    const width *w = &widths[at];
     const int nans = is_nan(w, x) + is_nan(w, y);
     uint64_t a, b;
     int good;
     if ((p->asked == NUMBERS_ALONE && nans != 0) || (p->asked == NUMBERS && (is_signaling(w, x) || is_signaling(w, y))))
         return;
-    a = p->ours(x, y);
-    b = p->theirs(x, y);
+    a = p->ours[at](x, y);
+    b = p->theirs[at](x, y);
     if (nans == 2)
         good = is_nan(w, a) && is_nan(w, b);
     else
@@ -127,7 +119,7 @@ static void check(const width *w, const peer *p, uint64_t x, uint64_t y)
     compared++;
     other_zeros += nans != 2 && good && a != b;
     if (!good && differences++ < 20)
-        printf("%s of %llx and %llx gave %llx, ours %llx\n", p->name, (unsigned long long)x, (unsigned long long)y, (unsigned long long)b,
+        printf("%s of %llx and %llx gave %llx, ours %llx\n", p->names[at], (unsigned long long)x, (unsigned long long)y, (unsigned long long)b,
                (unsigned long long)a);
 }
 
@@ -180,45 +172,47 @@ static uint64_t random_bits(void)
 static uint64_t random_pattern(const width *w) { return random_bits() >> (64 - w->bits); }
 
 /* The same, one of them negated or not; two zeros; neighbours; one exponent field; a zero and any; two edges; any two. */
-static void check_random(const width *w, const peer *p)
+static void check_random(int at, const peer *p)
 {
+    const width *w = &widths[at];
     const uint64_t x = random_pattern(w), y = random_pattern(w), zero = y & sign_of(w);
     switch (random_bits() >> 61) {
-    case 0: check(w, p, x, x ^ zero); break;
-    case 1: check(w, p, x & sign_of(w), zero); break;
-    case 2: check(w, p, x, x ^ (y & 3)); break;
-    case 3: check(w, p, x, x ^ (y & (unit_of(w) - 1))); break;
-    case 4: check(w, p, x, zero); break;
-    case 5: check(w, p, zero, x); break;
-    case 6: check(w, p, edges[x % edge_count], edges[y % edge_count]); break;
-    default: check(w, p, x, y); break;
+    case 0: check(at, p, x, x ^ zero); break;
+    case 1: check(at, p, x & sign_of(w), zero); break;
+    case 2: check(at, p, x, x ^ (y & 3)); break;
+    case 3: check(at, p, x, x ^ (y & (unit_of(w) - 1))); break;
+    case 4: check(at, p, x, zero); break;
+    case 5: check(at, p, zero, x); break;
+    case 6: check(at, p, edges[x % edge_count], edges[y % edge_count]); break;
+    default: check(at, p, x, y); break;
     }
 }
 
-static void check_all(const width *w, const peer *p)
+static void check_all(int at, const peer *p)
 {
     size_t i, j;
     long n;
     compared = other_zeros = 0;
     for (i = 0; i < edge_count; i++)
         for (j = 0; j < edge_count; j++)
-            check(w, p, edges[i], edges[j]);
+            check(at, p, edges[i], edges[j]);
     for (n = 0; n < RANDOM; n++)
-        check_random(w, p);
-    printf("%-13s %9llu pairs, %s; %7llu of two zeros with the other sign\n", p->name, compared,
-           p->asked == BITS ? "to the bit " : "as numbers", other_zeros);
+        check_random(at, p);
+    printf("%-13s %9llu pairs, %s; %7llu of two zeros with the other sign\n", p->names[at], compared,
+           p->asked == BITS ? "to the bit" : "as numbers", other_zeros);
 }
 
 int main(void)
 {
-    size_t i, j;
+    size_t p;
+    int at;
 #ifndef HAS_NUM
     printf("fminimum_num: this C library has none, and is left out\n");
 #endif
-    for (i = 0; i < sizeof widths / sizeof widths[0]; i++) {
-        find_edges(&widths[i]);
-        for (j = 0; j < sizeof peers[i] / sizeof peers[i][0] && peers[i][j].name != NULL; j++)
-            check_all(&widths[i], &peers[i][j]);
+    for (at = 0; at < WIDTHS; at++) {
+        find_edges(&widths[at]);
+        for (p = 0; p < sizeof peers / sizeof peers[0]; p++)
+            check_all(at, &peers[p]);
     }
     printf("%llu differences\n", differences);
     return differences != 0;

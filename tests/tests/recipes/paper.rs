@@ -2,6 +2,7 @@
 
 use estrenwind_tests::library::RunAnswer;
 use estrenwind_tests::recipes::comparison::check;
+use estrenwind_tests::recipes::zeros::BOTH_ORDERS;
 use estrenwind_tests::recipes::RunCall;
 use estrenwind_tests::reference::recipe::Way;
 
@@ -156,16 +157,6 @@ fn what_is_turned_down_and_with_which_number() {
 /// its range, and whether a divisor is zero, is still asked of numbers.
 #[test]
 fn the_zeros_in_fmin_and_fmax() {
-    const ZEROS: &str = "\
-01000000000000000000004000000000000000
-01000080000000000000004008000000000000
-20000100000000000000000000000000000000
-20010000000000000000000000000000000000
-21000100000000000000000000000000000000
-21010000000000000000000000000000000000
-17020000000000000000000000000000000000
-16020000000000000000000000000000000000
-";
     const PLUS: u64 = 0;
     const MINUS: u64 = 1 << 63;
     const ONE: u64 = 0x3ff0000000000000;
@@ -180,11 +171,11 @@ fn the_zeros_in_fmin_and_fmax() {
         ([ONE, ONE], ONE, ONE, ONE | MINUS, ONE),
     ] {
         let frame = format!("{x:016x}{y:016x}");
-        let outcome = check(Way::Exact, &call(ZEROS, &frame));
+        let outcome = check(Way::Exact, &call(BOTH_ORDERS, &frame));
         assert_eq!(outcome.answer, completed(1, magnitude), "{frame}");
         let words = [x, y, least, least, greatest, greatest, negated, magnitude];
         assert_eq!(outcome.memory[..8], words, "{frame}");
-        let divided = format!("{ZEROS}220002{:032}\n", 0);
+        let divided = format!("{BOTH_ORDERS}220002{:032}\n", 0);
         let answer = match magnitude {
             PLUS => refused(20, 8),
             _ => completed(1, PLUS),

@@ -3,6 +3,7 @@
 use crate::BEFORE;
 use estrenwind_tests::library::SheetAnswer;
 use estrenwind_tests::recipes::comparison::check;
+use estrenwind_tests::recipes::zeros::BOTH_ORDERS;
 use estrenwind_tests::recipes::{Call, SheetCall};
 use estrenwind_tests::reference::recipe::Way;
 
@@ -53,18 +54,7 @@ fn the_example_s_sheet_is_as_printed() {
     }
 }
 
-/// From +0 to 2 and from -0 to 3, fmin and fmax in both orders, fmin's negation and magnitude.
-const ZEROS: &str = "\
-01000000000000000000004000000000000000
-01000080000000000000004008000000000000
-20000100000000000000000000000000000000
-20010000000000000000000000000000000000
-21000100000000000000000000000000000000
-21010000000000000000000000000000000000
-17020000000000000000000000000000000000
-16020000000000000000000000000000000000
-";
-
+/// The sheet of `BOTH_ORDERS`.
 const ZEROS_SHEET: &str = "\
 000100000000000000004000000000000000
 010180000000000000004008000000000000
@@ -80,7 +70,7 @@ const ZEROS_SHEET: &str = "\
 /// zero: its magnitudes start at +0, and as a divisor it holds zero as before.
 #[test]
 fn the_zeros_in_fmin_and_fmax() {
-    let outcome = check(Way::Exact, &call(ZEROS));
+    let outcome = check(Way::Exact, &call(BOTH_ORDERS));
     assert_eq!(outcome.answer, passed(8));
     let shown = &outcome.memory[BEFORE..][..ZEROS_SHEET.len()];
     assert_eq!(
@@ -88,7 +78,7 @@ fn the_zeros_in_fmin_and_fmax() {
         ZEROS_SHEET.escape_default().to_string()
     );
     for divisor in 0..8 {
-        let text = format!("{ZEROS}2200{divisor:02x}{:032}\n", 0);
+        let text = format!("{BOTH_ORDERS}2200{divisor:02x}{:032}\n", 0);
         let outcome = check(Way::Exact, &call(&text));
         assert_eq!(outcome.answer, refused(20, 8), "by step {divisor}");
     }
