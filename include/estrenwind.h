@@ -41,6 +41,7 @@ extern "C" {
 #define EW_RECIPE_LINE 39                                /* a recipe, per step */
 #define EW_SHEET_LINE 37                                 /* a sheet, per step */
 #define EW_FRAME_INPUT 16                                /* a frame, per input */
+#define EW_ANSWER_LINE 19                                /* the longest answer to a frame line */
 #define EW_MOST_TEXT (EW_MOST_STEPS * EW_RECIPE_LINE)    /* 4992: the longest recipe */
 #define EW_MOST_SHEET (EW_MOST_STEPS * EW_SHEET_LINE)    /* 4736: memory that is enough for every ew_sheet */
 #define EW_MOST_FRAME (EW_MOST_INPUTS * EW_FRAME_INPUT)  /* 256: the longest frame */
@@ -411,15 +412,15 @@ static inline float ew_fmaxf(float x, float y) { return ew_value_f32(ew_fmax_f32
 /* ---- Recipes ---- */
 
 /*
- * What holds of ew_sheet, ew_explain and ew_run:
+ * What holds of ew_sheet, ew_explain, ew_run and ew_run_lines:
  *
  *     Threads    They keep no state. Any number of threads may call them at once, on the same text and frame too, each with
  *                lent memory of its own.
  *     Lengths    A length counts elements: bytes, of words uint64_t each. An array of length 0 is not touched: its pointer
  *                may be NULL.
- *     Overlap    The lent memory (sheet, words) must not overlap the text or the frame. Text and frame may overlap.
- *     Alignment  words is aligned as uint64_t is. Text, frame and sheet may start anywhere.
- *     Stack      On the longest recipe ew_run uses 6 KiB, ew_sheet and ew_explain 7 KiB. 12 KiB are enough for each, with what
+ *     Overlap    The lent memory (sheet, words, answers) must not overlap the text, the frame or the lines. These may overlap.
+ *     Alignment  words is aligned as uint64_t is. Text, frame, lines, sheet and answers may start anywhere.
+ *     Stack      On the longest recipe ew_run uses 6 KiB, the others 7 KiB. 12 KiB are enough for each, with what
  *                the dynamic linker takes of it to bind memcpy at its first call.
  */
 
@@ -493,6 +494,25 @@ typedef struct { uint64_t refusal, place, kind, word; } ew_run_answer;
  * a step: the first in that order, and no word is written.
  */
 ew_run_answer ew_run(const uint8_t *text, size_t text_len, const uint8_t *frame, size_t frame_len, uint64_t *words, size_t words_len);
+
+/*
+ * What ew_run_lines answers: a refusal's number and place, or how many bytes of lines it has read and how many bytes of answers it has written.
+ * What is not used is 0.
+ */
+typedef struct { uint64_t refusal, place, read, written; } ew_lines_answer;
+
+/*
+ * ew_run_lines answers frame lines as the program run does, and reads the recipe once for all of them. A line counts where its line feed is
+ * there. Each is answered by one line: kind 2 lower-case hexadecimal digits and word 16; or ff, a refusal's number 2 digits and its place
+ * 2, and a refused frame does not stop the next. It goes on while EW_ANSWER_LINE bytes of answers are left. Memory past the last answer stays
+ * as it was.
+ *
+ * What was not read is there for the next call, with the lines that follow it: the answers one after another are those of run. Where lines
+ * has a line feed at least one line is answered. A last line that lacks its line feed is the caller's to end.
+ *
+ * Refuses 10 to 17 for the text, and 40 where answers has fewer than EW_ANSWER_LINE bytes: the first in that order, and no byte is written.
+ */
+ew_lines_answer ew_run_lines(const uint8_t *text, size_t text_len, const uint8_t *lines, size_t lines_len, uint8_t *answers, size_t answers_len);
 
 #ifdef __cplusplus
 }

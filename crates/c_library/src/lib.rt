@@ -4,6 +4,7 @@ use float_format::Binary64;
 use float_format::Word16;
 use float_format::Word32;
 use float_format::Word64;
+use programs::LinesAnswer;
 use scaling::Frexp32;
 use scaling::Frexp64;
 use semantics::ExplainAnswer;
@@ -30,6 +31,8 @@ ghost use Rattle.semantics.specs.Sheet as sheet;
 ghost use Rattle.semantics.specs.Explain.{explainOf};
 ghost use Rattle.semantics.specs.Explain as explain;
 ghost use Rattle.semantics.specs.Promise.{Keeps};
+ghost use Rattle.programs.specs.Batch.{batchOf};
+ghost use Rattle.programs.specs.Batch as batch;
 
 // A whole number, and the number of the refusal, 0 where there is none.
 #[repr(C)]
@@ -342,4 +345,12 @@ pub extern "C" fn ew_run(text: &[u8], frame: &[u8], words: &mut [u64]) -> RunAns
     ensures { λ r. ⌜ ((l : List Step) → readText short (now (text .entry)) ≡ steps l → Keeps l (now (frame .entry)) (now (words .entry)) r (now (words .exit))) ⌝ }
 {
     running::run(text, frame, words)
+}
+
+#[no_mangle]
+pub extern "C" fn ew_run_lines(text: &[u8], lines: &[u8], answers: &mut [u8]) -> LinesAnswer
+    ensures { λ r. ⌜ (r ≡ batch.answerOf (batchOf (now (text .entry)) (now (lines .entry)) (length (now (answers .entry)))))
+        × (now (answers .exit) ≡ batch.bytesOf (batchOf (now (text .entry)) (now (lines .entry)) (length (now (answers .entry)))) (now (answers .entry))) ⌝ }
+{
+    batch::run_lines(text, lines, answers)
 }

@@ -14,6 +14,7 @@ use Rattle.programs.specs.declared.Lines.{Lines}
 use Rattle.programs.specs.declared.End.{End}
 use Rattle.programs.specs.declared.End.the-variants.{Missing, Empty, Endless}
 use Rattle.programs.specs.Output.{Input, parted, endless, lookedAt, linesAfter, answers, partAfter, outputOf}
+use Rattle.programs.specs.Batch.{answered, batchSteps}
 
 -- ---- what is owed
 
@@ -100,6 +101,8 @@ pub record Answered (w s : List ℕ) (from : ℕ) (r : Lines) (out : List ℕ) :
   pub moved : r .full ≡ true → from < r .at
   pub rest : r .full ≡ false → LineEnd s (r .at) (length s)
   pub paid : (l : List Step) → Holds l w → Paid l [] (between from (r .at) s) (take (r .put) out) []
+  -- which lines: as many as the room is for
+  pub batch : (l : List Step) → Holds l w → batchSteps l (drop from s) (length out) ≡ answered (r .at - from) (take (r .put) out)
 
 -- the same of any piece, with what is kept of the line
 pub record Handled (l : List Step) (line piece written : List ℕ) (n : ℕ) (buffer : List ℕ) : Type 0 where

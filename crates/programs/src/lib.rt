@@ -1,5 +1,6 @@
-// What the programs write, and how far the run program is in its input (document 01, "Sheet and run on paper"). Types and numbers alone:
-// `specs/` has the definitions, `proofs/` what holds of them, and the functions stand in `stream`.
+// What the programs write, how far the run program is in its input (document 01, "Sheet and run on paper"), and the call that answers many
+// frame lines. Types and numbers alone: `specs/` has the definitions, `proofs/` what holds of them, and the functions stand in `stream` and
+// `batch`.
 use recipe::LONGEST_TEXT;
 
 // The bytes in which an empty line is looked for: those of the longest recipe, and the line feed after it.
@@ -33,4 +34,14 @@ pub struct Lines {
     pub at: usize,
     pub put: usize,
     pub full: bool,
+}
+
+// What the call on frame lines answers: a refusal's number and place, or how many bytes of the lines it has read and how many bytes of
+// answers it has written. What is not used is 0.
+#[repr(C)]
+pub struct LinesAnswer {
+    pub refusal: u64,
+    pub place: u64,
+    pub read: u64,
+    pub written: u64,
 }

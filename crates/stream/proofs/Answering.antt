@@ -1,5 +1,5 @@
 -- Line after line, as `answer_lines` goes. The idea: the lines up to a place are answered in the first bytes of the output, and one line more
--- is a piece more that is paid for. Assumes nothing.
+-- is a piece more that is paid for, and one fewer that is due. Assumes nothing.
 use mathlib.Core.Path.{_≡_, refl, ap, _∙_, sym}
 use mathlib.Core.Bool.{true, false}
 use mathlib.Core.List.{List, [], _∷_, _++_}
@@ -18,6 +18,8 @@ use Rattle.programs.specs.Stage.{LineEnd, Paid, Answered, between, Untouched}
 use Rattle.programs.proofs.Pieces.{between-none, between-join}
 use Rattle.programs.proofs.Untouched.{untouched-join, untouched-part}
 use Rattle.programs.proofs.FrameLines.{paid-none, paid-join, paid-line, plain-piece, ended-piece}
+use Rattle.programs.proofs.EndedLines.{ended-rest}
+use Rattle.programs.proofs.Batches.{Due, due-none, due-more, due-ended, due-full}
 
 -- ---- where a line ends
 
@@ -36,7 +38,8 @@ put-some l ys z n j h k =
     ∙ take-append-add (take n l) (ys ++ z) j
     ∙ ap (λ (x : List ℕ). take n l ++ x) (take-append-le j ys z k)
 
--- the lines from a place up to i, answered in the first bytes of the output; some, once i has moved
+-- the lines from a place up to i, answered in the first bytes of the output; some, once i has moved; and the others that there is room for are
+-- still due
 pub record Going (w s : List ℕ) (from : ℕ) (out₀ out : List ℕ) (i put : ℕ) : Type 0 where
   pub out-length : length out ≡ length out₀
   pub after : from ≤ i
@@ -44,6 +47,7 @@ pub record Going (w s : List ℕ) (from : ℕ) (out₀ out : List ℕ) (i put : 
   pub room : put ≤ length out₀
   pub idle : i ≤ from → put ≡ 0
   pub paid : (l : List Step) → Holds l w → Paid l [] (between from i s) (take put out) []
+  pub due : (l : List Step) → Holds l w → Due l s from (length out₀) i put (take put out)
   pub rest : Untouched put out₀ out
 
 pub going-none : (w s : List ℕ) (from : ℕ) (out : List ℕ) → from ≤ length s → Going w s from out out from 0
@@ -55,6 +59,7 @@ going-none w s from out h =
       room = omega arith;
       idle = λ _. refl;
       paid = λ l g. rw (between-none s from) (paid-none l []);
+      due = λ l g. due-none l s from (length out);
       rest = refl;
     }
 
@@ -75,18 +80,22 @@ module _ (w s : List ℕ) (from : ℕ) (out₀ out : List ℕ) (i put : ℕ) (g 
         paid = λ l f.
             rw (between-join s from i (e + 1) (g .after) (omega (arith, d .after)), put-some out ys (drop (length out - put) (drop put out)) put p q (omega arith), ended-piece s i e d h)
             (paid-join l [] (between from i s) (take put out) [] (between i e s ++ (10 ∷ [])) (take p ys) [] (g .paid l f) (paid-line l [] (between i e s) (take p ys) (plain-piece s i e d) (v l f)));
+        due = λ l f.
+            rw (put-some out ys (drop (length out - put) (drop put out)) put p q (omega arith))
+            (due-more l s from (length out₀) i put (take put out) (g .due l f) e p (take p ys) d h (omega (arith, g .out-length)) (v l f) (length-take-le p ys (omega arith)));
         rest = untouched-join out₀ out (part-put put (length out - put) out ys) put (put + p) (put + p) (omega arith) (omega arith) (g .rest) (untouched-part out ys put (length out - put) p (omega arith) (omega arith) x u);
       }
 
   -- the rest has no line feed
-  pub going-rest : (e : ℕ) → LineEnd s i e → e ≡ length s → Answered w s from (record { at = i; put = put; full = false }) out
-  going-rest e d h =
+  pub going-rest : (e : ℕ) → LineEnd s i e → e ≡ length s → 19 ≤ length out₀ → Answered w s from (record { at = i; put = put; full = false }) out
+  going-rest e d h m =
       record {
         after = g .after;
         within = g .within;
         moved = λ z. never (cc);
         rest = λ _. rw h at d;
         paid = g .paid;
+        batch = λ l f. rw (g .out-length) (due-ended l s from (length out₀) i put (take put out) (g .due l f) m (ended-rest s i e d h));
       }
 
   -- the output has room for one answer, so that at least one line was taken before it is full
@@ -101,4 +110,5 @@ module _ (w s : List ℕ) (from : ℕ) (out₀ out : List ℕ) (i put : ℕ) (g 
             (lt-or-ge from i);
         rest = λ z. never (cc);
         paid = g .paid;
+        batch = λ l f. rw (g .out-length) (due-full l s from (length out₀) i put (take put out) (g .due l f) h (omega (arith, g .out-length)));
       }

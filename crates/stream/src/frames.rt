@@ -67,8 +67,9 @@ pub(crate) fn kept_line(steps: &[u64], buffer: &[u8], n: usize, out: &mut [u8]) 
     frame_line(steps, &buffer[..n], out)
 }
 
-// Answers the lines of s from a place on, until no line feed is left or out has too little room for another answer.
-fn answer_lines(steps: &[u64], s: &[u8], from: usize, out: &mut [u8]) -> Lines
+// Answers the lines of s from a place on, until no line feed is left or out has too little room for another answer. The steps are those of
+// a recipe that was read.
+pub fn answer_lines(steps: &[u64], s: &[u8], from: usize, out: &mut [u8]) -> Lines
     requires { ⌜ (from ≤ length (now s)) × (19 ≤ length (now out)) ⌝ }
     ensures { λ r. ⌜ (r .put ≤ length (now (out .entry))) × Answered (now (steps .entry)) (now (s .entry)) from r (now (out .exit))
         × Untouched (r .put) (now (out .entry)) (now (out .exit)) ⌝ }

@@ -28,6 +28,7 @@ mod sheet;
 
 pub use answer::LINE;
 pub use explain::write_explanation;
+pub use frames::answer_lines;
 pub use sheet::write_sheet;
 
 // What feeding came to: the state after it, the place in the chunk up to which it is used, and the bytes put out.

@@ -35,7 +35,7 @@ returns c =
     let l = c .before .before .before .loop in
     let e = c .before .line-end .result in
     let h : e ≡ length (now (a .s)) = omega (arith, c .if1 .taken, c .before .line-end .ensures .within) in
-    (l .inv .room, going-rest (now (a .steps)) (now (a .s)) (a .from) (now (a .out)) (l .out) (l .i) (l .put) (l .inv) e (c .before .line-end .ensures) h, l .inv .rest)
+    (l .inv .room, going-rest (now (a .steps)) (now (a .s)) (a .from) (now (a .out)) (l .out) (l .i) (l .put) (l .inv) e (c .before .line-end .ensures) h (c .before .before .before .before .before .before .before .pre .1), l .inv .rest)
 
 sub-frame-line : tie.Need-sub-frame-line Inv-loop μ-loop
 sub-frame-line c = omega (arith, c .before .line-end .ensures .after)

@@ -1,0 +1,2 @@
+-- The laws of `batch`.
+pub mod Calls
