@@ -1,5 +1,5 @@
-# Estrenwind: proved rounding of IEEE 754 numbers, delivered as build/libestrenwind.a, build/estrenwind.h and the programs build/sheet,
-# build/run and build/explain.
+# Estrenwind: proved rounding of IEEE 754 numbers, delivered as build/libestrenwind.a, build/estrenwind.h, the programs build/sheet,
+# build/run and build/explain, and the command build/estrenwind over the library.
 
 VERSION = 0.1.0
 PREFIX = /usr/local
@@ -11,10 +11,12 @@ CFLAGS = -O2
 WARNINGS = -Wall -Wextra -Wpedantic -Wconversion -Werror
 CARGO_TESTS = --offline --release --manifest-path tests/Cargo.toml
 CARGO_BINDINGS = --offline --manifest-path bindings/rust/Cargo.toml
+CARGO_COMMAND = --offline --release --manifest-path tools/estrenwind/Cargo.toml
 
 LIBRARY = build/libestrenwind.a
 HEADER = build/estrenwind.h
 PROGRAMS = build/sheet build/run build/explain
+COMMAND = build/estrenwind
 export ESTRENWIND_LIB_DIR = $(CURDIR)/build
 SOURCES = crates.txt $(shell find crates -name '*.rt' -o -name '*.antt')
 
@@ -29,7 +31,7 @@ DESTINATION = $(call quoted,$(DESTDIR)$(PREFIX))
 help:  ## this list
 	@awk -F ':.*## ' '/^[a-z-]+:.*## / { printf "  make %-16s %s\n", $$1, $$2 }' Makefile
 
-build: $(LIBRARY) $(HEADER) $(PROGRAMS)  ## prove the crates and build the C library, its header and the programs, in build/
+build: $(LIBRARY) $(HEADER) $(PROGRAMS) $(COMMAND)  ## prove the crates and build the C library, its header, the programs and the command estrenwind, in build/
 
 # Every function starts a 64-byte line: where a linker put it would otherwise move its speed by a third.
 $(LIBRARY): $(SOURCES)
@@ -50,21 +52,16 @@ $(HEADER): include/estrenwind.h
 	@mkdir -p build
 	cp $< $@
 
+$(COMMAND): $(LIBRARY) $(wildcard tools/estrenwind/Cargo.* tools/estrenwind/src/*.rs bindings/rust/Cargo.* bindings/rust/src/*.rs)
+	@$(call need,cargo,build the command estrenwind)
+	cargo build --quiet $(CARGO_COMMAND)
+	@mkdir -p build
+	cp tools/estrenwind/target/release/estrenwind $@
+
 EXAMPLE = texture_index
 
-demo: build  ## an example recipe through the programs, with names and decimal numbers (EXAMPLE=turned_down for another)
-	@$(call need,$(CC),compile the example)
-	@mkdir -p build/demo
-	$(CC) -std=c99 $(CFLAGS) $(WARNINGS) -Ibuild examples/readable.c -o build/readable
-	build/sheet <examples/$(EXAMPLE)/recipe >build/demo/sheet
-	build/explain <examples/$(EXAMPLE)/recipe >build/demo/explanation
-	(cat examples/$(EXAMPLE)/recipe; echo; cat examples/$(EXAMPLE)/frames) | build/run >build/demo/answers
-	@echo
-	@sed -n '1s/^# //p' examples/$(EXAMPLE)/README.md
-	@echo
-	@build/readable examples/$(EXAMPLE)/recipe build/demo/sheet build/demo/explanation examples/$(EXAMPLE)/frames build/demo/answers
-	@echo
-	@echo "examples/$(EXAMPLE)/README.md says what each line is for."
+demo: build  ## an example recipe through the command estrenwind (EXAMPLE=turned_down for another)
+	@sh examples/demo.sh build/estrenwind examples/$(EXAMPLE)
 
 roundings: build  ## show what each rounding makes of a dozen texture indices
 	@$(call need,$(CC),compile the example)
@@ -72,18 +69,20 @@ roundings: build  ## show what each rounding makes of a dozen texture indices
 	@echo
 	@build/roundings
 
-install: build  ## install programs, library, header, pkg-config file and manual pages under PREFIX (DESTDIR is put before it)
+install: build  ## install command, programs, library, header, pkg-config file, manual pages and completion under PREFIX (DESTDIR is put before it)
 	@$(call need,install,put files in their places (coreutils))
 	sed -e $(call quoted,s|@PREFIX@|$(call replacement,$(PREFIX))|) -e 's|@VERSION@|$(VERSION)|' estrenwind.pc.in >build/estrenwind.pc
-	install -d $(addprefix $(DESTINATION)/,bin lib/pkgconfig include share/man/man1)
-	install -m 755 $(PROGRAMS) $(DESTINATION)/bin
+	install -d $(addprefix $(DESTINATION)/,bin lib/pkgconfig include share/man/man1 share/bash-completion/completions)
+	install -m 755 $(PROGRAMS) $(COMMAND) $(DESTINATION)/bin
 	install -m 644 $(LIBRARY) $(DESTINATION)/lib
 	install -m 644 build/estrenwind.pc $(DESTINATION)/lib/pkgconfig
 	install -m 644 $(HEADER) $(DESTINATION)/include
-	install -m 644 man/sheet.1 man/run.1 man/explain.1 $(DESTINATION)/share/man/man1
+	install -m 644 man/sheet.1 man/run.1 man/explain.1 man/estrenwind.1 $(DESTINATION)/share/man/man1
+	install -m 644 tools/estrenwind/estrenwind.bash $(DESTINATION)/share/bash-completion/completions/estrenwind
 
-INSTALLED = bin/sheet bin/run bin/explain lib/libestrenwind.a lib/pkgconfig/estrenwind.pc include/estrenwind.h \
-	share/man/man1/sheet.1 share/man/man1/run.1 share/man/man1/explain.1
+INSTALLED = bin/sheet bin/run bin/explain bin/estrenwind lib/libestrenwind.a lib/pkgconfig/estrenwind.pc include/estrenwind.h \
+	share/man/man1/sheet.1 share/man/man1/run.1 share/man/man1/explain.1 share/man/man1/estrenwind.1 \
+	share/bash-completion/completions/estrenwind
 
 uninstall:  ## remove what install put under PREFIX
 	rm -f $(addprefix $(DESTINATION)/,$(INSTALLED))
@@ -104,7 +103,7 @@ build/peers: tests/c/peers.c $(LIBRARY) $(HEADER)
 test-peers: build/peers  ## hold fmin and fmax beside glibc's and the processor's own, on 120 million pairs
 	build/peers
 
-test-c: build test-readable build/halves test-peers  ## compile the header as C99 and C++11, check the marked cases, hold halves, fmin and fmax beside others', read the machine code, measure the stack
+test-c: build build/halves test-peers  ## compile the header as C99 and C++11, check the marked cases, hold halves, fmin and fmax beside others', read the machine code, measure the stack
 	@$(call need,$(CC),compile the C tests)
 	@$(call need,objdump,read the machine code (binutils))
 	$(CC) -std=c99 $(CFLAGS) $(WARNINGS) -Ibuild tests/c/compile.c $(LIBRARY) -lm -o build/compile-c
@@ -121,10 +120,6 @@ test-c: build test-readable build/halves test-peers  ## compile the header as C9
 	$(CC) -std=gnu11 $(CFLAGS) $(WARNINGS) -Ibuild tests/c/stack.c $(LIBRARY) -lpthread -o build/stack
 	build/stack
 
-test-readable: $(HEADER)  ## examples/readable.c on every example and on hostile files, under the sanitizers
-	@$(call need,$(CC),compile the example)
-	CC=$(call quoted,$(CC)) CFLAGS=$(call quoted,$(CFLAGS) $(WARNINGS)) sh tests/c/readable.sh build
-
 test-rust: build  ## compare the library with the independent second implementation
 	@$(call need,cargo,build the Rust tests)
 	cargo test $(CARGO_TESTS)
@@ -132,6 +127,11 @@ test-rust: build  ## compare the library with the independent second implementat
 test-bindings: build  ## the Rust crate in bindings/rust: its tests and the examples in its documents
 	@$(call need,cargo,build the Rust crate)
 	cargo test $(CARGO_BINDINGS)
+
+test-command: build  ## the command estrenwind: its own tests, and those of the built command beside the programs
+	@$(call need,cargo,build the tests)
+	cargo test $(CARGO_COMMAND)
+	cargo test $(CARGO_TESTS) --test command
 
 test-install: build  ## install into build/installed, and build and run a C program and the Rust crate against that
 	CC=$(call quoted,$(CC)) sh tests/c/installed.sh $(call quoted,$(CURDIR)/build/installed)
@@ -159,6 +159,10 @@ faults-deps:  ## install strace, with which the tests have single system calls o
 	@$(call need,apt-get,install packages)
 	apt-get install -y --no-install-recommends strace
 
+farm-deps:  ## install GNU parallel, for examples/farm, and tmux, in which a test runs the command (Debian, as root)
+	@$(call need,apt-get,install packages)
+	apt-get install -y --no-install-recommends parallel tmux
+
 ENDLESS_MIB = 4096
 
 test-endless: build  ## the programs on lines of 4 GiB, in memory that does not grow: long, not in the gate
@@ -170,7 +174,7 @@ test-exhaustive: build build/halves  ## compare them on every f32 there is, 2^32
 	cargo run $(CARGO_TESTS) --bin exhaustive
 	build/halves all
 
-bench: build  ## time single calls beside glibc, musl and newlib, halves beside gcc, F16C and Imath, check the targets, and time runs, sheets and the program run beside plain ones
+bench: build  ## time single calls beside glibc, musl and newlib, halves beside gcc, F16C and Imath, check the targets, and time runs, sheets, the program run beside plain ones, and the command beside the program
 	@$(call need,$(CC),compile the benchmark)
 	CC=$(call quoted,$(CC)) sh bench/references.sh build/bench
 	$(CC) -std=gnu99 -O2 -Wall -Wextra -falign-functions=64 -falign-loops=64 -Ibuild -Ibuild/bench bench/bench.c \
@@ -182,7 +186,7 @@ bench: build  ## time single calls beside glibc, musl and newlib, halves beside 
 	@echo
 	@tests/target/speed/recipe_speed
 	@echo
-	@tests/target/speed/program_speed build/run tests/target/speed/reference_run build/bench
+	@tests/target/speed/program_speed build/run tests/target/speed/reference_run build/estrenwind build/bench
 
 bench-deps:  ## install musl, newlib's source and Imath for the benchmark (Debian, as root)
 	@$(call need,apt-get,install packages)
@@ -194,9 +198,10 @@ fmt:  ## put Rattle and Rust sources in their layout
 	rt fmt
 	cargo fmt --manifest-path tests/Cargo.toml
 	cargo fmt --manifest-path bindings/rust/Cargo.toml
+	cargo fmt --manifest-path tools/estrenwind/Cargo.toml
 
 clean:  ## remove everything that was built
-	rm -rf build target tests/target bindings/rust/target
+	rm -rf build target tests/target bindings/rust/target tools/estrenwind/target
 
-.PHONY: help build demo roundings install uninstall test test-c test-peers test-readable test-rust test-bindings test-install test-processors zero-rules processors-deps faults-deps \
-	test-endless test-exhaustive bench bench-deps fmt clean
+.PHONY: help build demo roundings install uninstall test test-c test-peers test-rust test-bindings test-command test-install test-processors zero-rules \
+	processors-deps faults-deps farm-deps test-endless test-exhaustive bench bench-deps fmt clean

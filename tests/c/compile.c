@@ -6,6 +6,7 @@
  * Built as C99, as C++11 (compile.cpp), and with -ffast-math, whose start-up code sets FTZ and DAZ for the whole program.
  */
 #include <fenv.h>
+#include <stddef.h>
 #include <stdio.h>
 #include <string.h>
 
@@ -516,6 +517,47 @@ static void check_run(void)
     check("run word", 3, r.word, 0xfffffffffffffffd);
 }
 
+/* Frames for it and the answers, as docs/FORMATS.md prints them; and how the answer of the call lies in memory. */
+static const char frames[] = "bfe0000000000000\n401e000000000000\n";
+static const char answered[] = "02ffffffffffffffff\nff2000\n";
+
+static void check_lines(void)
+{
+    const uint8_t *text = (const uint8_t *)recipe, *lines = (const uint8_t *)frames;
+    const size_t length = sizeof recipe - 1, lines_len = sizeof frames - 1;
+    uint8_t answers[2 * EW_ANSWER_LINE + 1];
+    ew_lines_answer l;
+    check("lines' answer", 0, sizeof l, 32);
+    check("lines' answer", 1, offsetof(ew_lines_answer, refusal), 0);
+    check("lines' answer", 2, offsetof(ew_lines_answer, place), 8);
+    check("lines' answer", 3, offsetof(ew_lines_answer, read), 16);
+    check("lines' answer", 4, offsetof(ew_lines_answer, written), 24);
+    memset(answers, '#', sizeof answers);
+    l = ew_run_lines(text, length, lines, lines_len, answers, EW_ANSWER_LINE - 1);
+    check("lines refusal", 0, l.refusal, EW_REFUSED_ROOM);
+    check("lines place", 0, l.place, 0);
+    check("lines read", 0, l.read, 0);
+    check("lines written", 0, l.written, 0);
+    check("lines write nothing", 0, answers[0], '#');
+    l = ew_run_lines(text, length, lines, lines_len, answers, 2 * EW_ANSWER_LINE - 1); /* one answer, though the short one would fit */
+    check("lines refusal", 1, l.refusal, EW_ACCEPTED);
+    check("lines read", 1, l.read, EW_FRAME_INPUT + 1);
+    check("lines written", 1, l.written, EW_ANSWER_LINE);
+    check("lines leave the rest", 1, answers[EW_ANSWER_LINE], '#');
+    l = ew_run_lines(text, length, lines, lines_len, answers, 2 * EW_ANSWER_LINE);
+    check("lines refusal", 2, l.refusal, EW_ACCEPTED);
+    check("lines place", 2, l.place, 0);
+    check("lines read", 2, l.read, lines_len);
+    check("lines written", 2, l.written, sizeof answered - 1);
+    check("lines' answers", 2, memcmp(answers, answered, sizeof answered - 1) == 0, 1);
+    check("lines leave the rest", 2, answers[sizeof answered - 1], '#');
+    l = ew_run_lines(text, length - EW_RECIPE_LINE / 2, lines, lines_len, answers, sizeof answers);
+    check("lines refusal", 3, l.refusal, EW_REFUSED_LENGTH);
+    l = ew_run_lines(text, length, text, length, answers, sizeof answers); /* the lines are the text: no line of it is a frame */
+    check("lines read", 4, l.read, length);
+    check("lines' answers", 4, memcmp(answers, "ff1e00\nff1e00\nff1e00\n", 21) == 0, 1);
+}
+
 /* Its sheet, as document 01 prints it. */
 static const char lines[] = "0001c004000000000000401d000000000000\n"
                             "0101c008000000000000401c000000000000\n"
@@ -567,7 +609,7 @@ static void check_nothing(void)
 {
     const uint8_t *input = (const uint8_t *)recipe, *constant = (const uint8_t *)"040000000000000000002a0000000000000000\n";
     uint64_t word = 7;
-    uint8_t sheet[EW_SHEET_LINE] = {'#'};
+    uint8_t sheet[EW_SHEET_LINE] = {'#'}, answers[EW_ANSWER_LINE] = {'#'};
     check("run of nothing", 0, ew_run(NULL, 0, NULL, 0, NULL, 0).refusal, EW_REFUSED_LENGTH);
     check("run without a text", 0, ew_run(NULL, 0, input, 16, &word, 1).refusal, EW_REFUSED_LENGTH);
     check("run without words", 0, ew_run(constant, EW_RECIPE_LINE, constant, 0, NULL, 0).refusal, EW_REFUSED_ROOM);
@@ -575,6 +617,12 @@ static void check_nothing(void)
     check("run writes nothing", 0, word, 7);
     check("run without inputs", 0, ew_run(constant, EW_RECIPE_LINE, NULL, 0, &word, 1).refusal, EW_ACCEPTED);
     check("run without inputs", 1, word, 42);
+    check("lines of nothing", 0, ew_run_lines(NULL, 0, NULL, 0, NULL, 0).refusal, EW_REFUSED_LENGTH);
+    check("lines without a text", 0, ew_run_lines(NULL, 0, input, 39, answers, sizeof answers).refusal, EW_REFUSED_LENGTH);
+    check("lines without memory", 0, ew_run_lines(constant, EW_RECIPE_LINE, NULL, 0, NULL, 0).refusal, EW_REFUSED_ROOM);
+    check("no lines", 0, ew_run_lines(constant, EW_RECIPE_LINE, NULL, 0, answers, sizeof answers).refusal, EW_ACCEPTED);
+    check("no lines", 1, ew_run_lines(constant, EW_RECIPE_LINE, NULL, 0, answers, sizeof answers).written, 0);
+    check("lines write nothing", 1, answers[0], '#');
     check("sheet of nothing", 0, ew_sheet(NULL, 0, NULL, 0).refusal, EW_REFUSED_LENGTH);
     check("sheet without a text", 0, ew_sheet(NULL, 0, sheet, sizeof sheet).refusal, EW_REFUSED_LENGTH);
     check("sheet without memory", 0, ew_sheet(constant, EW_RECIPE_LINE, NULL, 0).refusal, EW_REFUSED_ROOM);
@@ -582,16 +630,21 @@ static void check_nothing(void)
     check("explanation of nothing", 0, ew_explain(NULL, 0).refusal, EW_REFUSED_LENGTH);
 }
 
-/* Text, frame and sheet at every address modulo 8. */
+/* Text, frame, lines, answers and sheet at every address modulo 8. */
 static void check_addresses(void)
 {
     size_t i;
     for (i = 0; i < 8; i++) {
         uint8_t text[sizeof recipe + 8], frame[EW_FRAME_INPUT + 8], sheet[sizeof lines + 8];
+        uint8_t line[sizeof frames + 8], answers[2 * EW_ANSWER_LINE + 8];
         uint64_t words[3];
         memcpy(text + i, recipe, sizeof recipe);
         memcpy(frame + i, "bfe0000000000000", EW_FRAME_INPUT);
         check("run at an address", i, ew_run(text + i, sizeof recipe - 1, frame + i, EW_FRAME_INPUT, words, 3).word, 0xffffffffffffffff);
+        memcpy(line + i, frames, sizeof frames);
+        check("lines at an address", i, ew_run_lines(text + i, sizeof recipe - 1, line + i, sizeof frames - 1, answers + i, 2 * EW_ANSWER_LINE).read,
+              sizeof frames - 1);
+        check("lines at an address", i, memcmp(answers + i, answered, sizeof answered - 1) == 0, 1);
         check("sheet at an address", i, ew_sheet(text + i, sizeof recipe - 1, sheet + i, sizeof lines - 1).steps, 3);
         check("sheet at an address", i, memcmp(sheet + i, lines, sizeof lines - 1) == 0, 1);
         check("explanation at an address", i, ew_explain(text + i, sizeof recipe - 1).reason, EW_REASON_NONE);
@@ -613,6 +666,7 @@ static void check_constants(void)
     check("recipe's line", 0, EW_RECIPE_LINE, 39);
     check("sheet's line", 0, EW_SHEET_LINE, 37);
     check("digits per input", 0, EW_FRAME_INPUT, 16);
+    check("longest answer", 0, EW_ANSWER_LINE, 19);
     check("longest text", 0, EW_MOST_TEXT, 4992);
     check("longest sheet", 0, EW_MOST_SHEET, 4736);
     check("longest frame", 0, EW_MOST_FRAME, 256);
@@ -631,6 +685,7 @@ int main(void)
         fesetround(modes[i]);
         check_all();
         check_run();
+        check_lines();
         check_sheet();
     check_explain();
         check_nothing();

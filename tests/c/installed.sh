@@ -4,12 +4,15 @@
 set -eu
 folder=$1
 strange="$folder in a stranger's place"
-files="bin/explain
+files="bin/estrenwind
+bin/explain
 bin/run
 bin/sheet
 include/estrenwind.h
 lib/libestrenwind.a
 lib/pkgconfig/estrenwind.pc
+share/bash-completion/completions/estrenwind
+share/man/man1/estrenwind.1
 share/man/man1/explain.1
 share/man/man1/run.1
 share/man/man1/sheet.1"
@@ -49,6 +52,10 @@ used() { # used FOLDER: installs there, uses what is installed, and removes it
     [ "$(printf '%s\n\nbfe0000000000000\n' "$recipe" | "$1/bin/run")" = 02ffffffffffffffff ] || fail "$1: the installed run is wrong"
     [ "$(echo "$recipe" | "$1/bin/explain")" = 00 ] || fail "$1: the installed explain is wrong"
 
+    # The command, from another folder than the one it was built in.
+    [ "$("$1/bin/estrenwind" --version)" = "estrenwind $version" ] || fail "$1: the installed command has another version"
+    [ "$(echo "$recipe" | "$1/bin/estrenwind" sheet --hex - | tail -n 1)" = 0202fffffffffffffffd0000000000000007 ] || fail "$1: the installed command is wrong"
+
     if command -v pkg-config >/dev/null; then
         export PKG_CONFIG_PATH="$1/lib/pkgconfig"
         [ "$(pkg-config --modversion estrenwind)" = "$version" ] || fail "$1: pkg-config has another version"
@@ -64,7 +71,7 @@ used() { # used FOLDER: installs there, uses what is installed, and removes it
     fi
 
     if command -v man >/dev/null && command -v groff >/dev/null; then
-        for page in sheet run; do
+        for page in sheet run explain estrenwind; do
             warnings=$(LC_ALL=C.UTF-8 man --warnings -E UTF-8 -l "$1/share/man/man1/$page.1" 2>&1 >/dev/null)
             [ -z "$warnings" ] || fail "$page.1: $warnings"
         done
@@ -83,4 +90,4 @@ staged "$strange.staged" "/opt/a place's & name"
 used "$folder"
 used "$strange"
 rm -rf "$folder.cargo"
-echo "installed, used and removed again: 9 files, under a plain name and under one with spaces"
+echo "installed, used and removed again: 12 files, under a plain name and under one with spaces"

@@ -1,6 +1,6 @@
 /*
  * The same answers on every processor: a million patterns through every function at both widths, every half through those that take
- * one, and recipes through ew_run, ew_sheet and ew_explain, to be run on processors that differ (tests/c/processors.sh) and compared. Linked
+ * one, and recipes through ew_run, ew_run_lines, ew_sheet and ew_explain, to be run on processors that differ (tests/c/processors.sh) and compared. Linked
  * statically, so that an emulator needs nothing else.
  *
  *     processors cpu                             what the processor says of itself
@@ -8,7 +8,8 @@
  *     processors libm                            a checksum for each of the C library's functions, on the same patterns
  *     processors values NAME                     all answers of one of the C library's functions, 8 bytes each
  *     processors runs FILE FIRST STRIDE          the answers to calls of a file, a line each: of buckets FIRST, FIRST + STRIDE, ..
- *     processors sheets FILE FIRST STRIDE        the same of sheets
+ *     processors lines FILE FIRST STRIDE         the same of frame lines
+ *     processors sheets FILE FIRST STRIDE        of sheets
  *     processors explanations FILE FIRST STRIDE  and of explanations
  *
  * A bucket is 64 calls. A file's call is two 32-bit lengths, a text and a frame of these lengths.
@@ -289,6 +290,24 @@ static void print_run(unsigned long number, const uint32_t lengths[2])
            (unsigned long long)r.kind, (unsigned long long)r.word, (unsigned long long)hash);
 }
 
+/* Its frame as a line, after an empty one. */
+static void print_lines(unsigned long number, const uint32_t lengths[2])
+{
+    static uint8_t lines[MOST + 2], answers[3 * EW_ANSWER_LINE];
+    uint64_t hash = 0;
+    size_t i;
+    ew_lines_answer r;
+    memset(answers, 0xa5, sizeof answers);
+    lines[0] = '\n';
+    memcpy(lines + 1, frame, lengths[1]);
+    lines[1 + lengths[1]] = '\n';
+    r = ew_run_lines(text, lengths[0], lines, (size_t)lengths[1] + 2, answers, sizeof answers);
+    for (i = 0; i < sizeof answers; i++)
+        hash = hashed(hash, answers[i]);
+    printf("%08lu %llu %llu %llu %llu %016llx\n", number, (unsigned long long)r.refusal, (unsigned long long)r.place, (unsigned long long)r.read,
+           (unsigned long long)r.written, (unsigned long long)hash);
+}
+
 static void print_sheet(unsigned long number, const uint32_t lengths[2])
 {
     static uint8_t sheet[EW_MOST_SHEET];
@@ -359,6 +378,8 @@ int main(int count, char **words)
         return libm_values(words[2]);
     else if (count == 5 && strcmp(words[1], "runs") == 0)
         return calls(words[2], strtoul(words[3], NULL, 10), strtoul(words[4], NULL, 10), print_run);
+    else if (count == 5 && strcmp(words[1], "lines") == 0)
+        return calls(words[2], strtoul(words[3], NULL, 10), strtoul(words[4], NULL, 10), print_lines);
     else if (count == 5 && strcmp(words[1], "sheets") == 0)
         return calls(words[2], strtoul(words[3], NULL, 10), strtoul(words[4], NULL, 10), print_sheet);
     else if (count == 5 && strcmp(words[1], "explanations") == 0)

@@ -42,7 +42,7 @@ same functions "$work/functions.here" "$work/functions.old" "$work/functions.new
 echo "functions: 16 at two widths and export to halves, a million patterns each, 6 of every half: checksum $(sed -n 's/^all //p' "$work/functions.here"), here and on both"
 
 # Buckets of calls by turns on the one and the other, joined again in their order.
-for kind in runs sheets explanations; do
+for kind in runs lines sheets explanations; do
     on here "$build/processors" $kind "$work/calls" 0 1 >"$work/$kind.here"
     on old "$build/processors" $kind "$work/calls" 0 2 >"$work/$kind.old"
     on new "$build/processors" $kind "$work/calls" 1 2 >"$work/$kind.new"

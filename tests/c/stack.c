@@ -1,5 +1,5 @@
 /*
- * Measures the deepest stack of ew_run, ew_sheet and ew_explain: each call runs on a stack of its own that was filled with a pattern, on a recipe of
+ * Measures the deepest stack of ew_run, ew_run_lines, ew_sheet and ew_explain: each call runs on a stack of its own that was filled with a pattern, on a recipe of
  * EW_MOST_STEPS steps with EW_MOST_INPUTS inputs and every opcode, and what no longer holds the pattern was used. Fails above what the
  * header says is enough.
  */
@@ -13,9 +13,12 @@
 enum { STACK = 1 << 20, LIMIT = 12 * 1024, PATTERN = 0xa5 };
 
 static char text[EW_MOST_TEXT + 1], frame[EW_MOST_FRAME + 1];
+static char lines[EW_MOST_FRAME + 3]; /* the frame, and an empty line, which is refused */
 static uint64_t words[EW_MOST_STEPS];
+static uint8_t answers[2 * EW_ANSWER_LINE];
 static uint8_t sheet[EW_MOST_SHEET];
 static ew_run_answer answer;
+static ew_lines_answer answered;
 static ew_sheet_answer shown;
 static ew_explain_answer explained;
 static unsigned char *top; /* where a caller's stack ends and the call's begins */
@@ -50,6 +53,13 @@ static void *run(void *unused)
 {
     top = __builtin_frame_address(0);
     answer = ew_run((const uint8_t *)text, EW_MOST_TEXT, (const uint8_t *)frame, EW_MOST_FRAME, words, EW_MOST_STEPS);
+    return unused;
+}
+
+static void *run_lines(void *unused)
+{
+    top = __builtin_frame_address(0);
+    answered = ew_run_lines((const uint8_t *)text, EW_MOST_TEXT, (const uint8_t *)lines, EW_MOST_FRAME + 2, answers, sizeof answers);
     return unused;
 }
 
@@ -92,10 +102,12 @@ static long used_by(void *(*body)(void *))
 
 int main(void)
 {
-    long bytes, sheet_bytes, explain_bytes, last_bytes;
+    long bytes, lines_bytes, sheet_bytes, explain_bytes, last_bytes;
     write_recipe();
+    sprintf(lines, "%s\n\n", frame);
     /* Once before they count: at its first call the dynamic linker binds memcpy, and takes some 3 KiB of the caller's stack for that. */
     run(NULL);
+    run_lines(NULL);
     show(NULL);
     explain(NULL);
     if (answer.refusal != EW_ACCEPTED || shown.refusal != EW_ACCEPTED || explained.reason != EW_REASON_NONE) {
@@ -103,7 +115,12 @@ int main(void)
                (unsigned long long)answer.place, (unsigned long long)shown.refusal, (unsigned long long)shown.place);
         return 1;
     }
+    if (answered.refusal != EW_ACCEPTED || answered.written != EW_ANSWER_LINE + 7) {
+        printf("the lines were refused: %llu at %llu\n", (unsigned long long)answered.refusal, (unsigned long long)answered.place);
+        return 1;
+    }
     bytes = used_by(run);
+    lines_bytes = used_by(run_lines);
     sheet_bytes = used_by(show);
     explain_bytes = used_by(explain);
     /* And where a reason is told of the last step: the remainder of an input by itself, whose range holds zero. */
@@ -115,8 +132,9 @@ int main(void)
     }
     if (last_bytes > explain_bytes)
         explain_bytes = last_bytes;
-    printf("on %d steps ew_run used %ld bytes of stack, ew_sheet %ld and ew_explain %ld\n", EW_MOST_STEPS, bytes, sheet_bytes, explain_bytes);
-    if (bytes > LIMIT || sheet_bytes > LIMIT || explain_bytes > LIMIT) {
+    printf("on %d steps ew_run used %ld bytes of stack, ew_run_lines %ld, ew_sheet %ld and ew_explain %ld\n", EW_MOST_STEPS, bytes, lines_bytes,
+           sheet_bytes, explain_bytes);
+    if (bytes > LIMIT || lines_bytes > LIMIT || sheet_bytes > LIMIT || explain_bytes > LIMIT) {
         printf("more than %d\n", LIMIT);
         return 1;
     }

@@ -19,4 +19,5 @@ pub mod programs;
 pub mod recipes;
 pub mod reference;
 pub mod scalings;
+pub mod speed;
 pub mod vectors;

@@ -1,8 +1,8 @@
 //! The library's C functions. Those of single values take and return numbers only, so every call is
-//! safe; `run`, `sheet` and `explain` have safe forms over slices.
+//! safe; `run`, `run_lines`, `sheet` and `explain` have safe forms over slices.
 
 use crate::answer::Answer;
-use crate::reference::recipe::{Explanation, Refusal, StepValue};
+use crate::reference::recipe::{Answers, Explanation, Refusal, StepValue};
 use std::fmt;
 
 /// A whole number and the refusal number, `ew_whole` of the header.
@@ -151,6 +151,48 @@ impl fmt::Display for RunAnswer {
     }
 }
 
+/// What a run of frame lines gives back, `ew_lines_answer` of the header: a refusal's number and
+/// place, or how many bytes of lines were read and how many of answers written. What isn't given is
+/// 0.
+#[repr(C)]
+#[derive(Clone, Copy, Debug, PartialEq, Eq)]
+pub struct LinesAnswer {
+    pub refusal: u64,
+    pub place: u64,
+    pub read: u64,
+    pub written: u64,
+}
+
+impl From<Refusal> for LinesAnswer {
+    fn from(refusal: Refusal) -> LinesAnswer {
+        LinesAnswer {
+            refusal: refusal.number,
+            place: refusal.place,
+            read: 0,
+            written: 0,
+        }
+    }
+}
+
+impl From<&Answers> for LinesAnswer {
+    fn from(answers: &Answers) -> LinesAnswer {
+        LinesAnswer {
+            refusal: 0,
+            place: 0,
+            read: answers.read as u64,
+            written: answers.bytes.len() as u64,
+        }
+    }
+}
+
+impl fmt::Display for LinesAnswer {
+    fn fmt(&self, f: &mut fmt::Formatter) -> fmt::Result {
+        let (read, written) = (self.read, self.written);
+        write!(f, "refusal {} place {} ", self.refusal, self.place)?;
+        write!(f, "read {read} written {written}")
+    }
+}
+
 /// What a sheet gives back, `ew_sheet_answer` of the header: a refusal's number and place, or the
 /// number of steps. What isn't given is 0.
 #[repr(C)]
@@ -258,6 +300,22 @@ pub fn run(text: &[u8], frame: &[u8], words: &mut [u64]) -> RunAnswer {
     }
 }
 
+/// `ew_run_lines`: `answers` is the lent memory.
+#[inline]
+pub fn run_lines(text: &[u8], lines: &[u8], answers: &mut [u8]) -> LinesAnswer {
+    // SAFETY: the pointers and lengths are those of slices, and only `answers` is lent for writing.
+    unsafe {
+        ew_run_lines(
+            text.as_ptr(),
+            text.len(),
+            lines.as_ptr(),
+            lines.len(),
+            answers.as_mut_ptr(),
+            answers.len(),
+        )
+    }
+}
+
 /// `ew_sheet`: `sheet` is the lent memory.
 #[inline]
 pub fn sheet(text: &[u8], sheet: &mut [u8]) -> SheetAnswer {
@@ -283,6 +341,16 @@ unsafe extern "C" {
         words: *mut u64,
         words_len: usize,
     ) -> RunAnswer;
+    /// Reads `text` and `lines` and writes `answers`, each as long as the number after it says. A
+    /// pointer may be null where that is 0.
+    pub fn ew_run_lines(
+        text: *const u8,
+        text_len: usize,
+        lines: *const u8,
+        lines_len: usize,
+        answers: *mut u8,
+        answers_len: usize,
+    ) -> LinesAnswer;
     /// Reads `text` and writes `sheet`, each as long as the number after it says. A pointer may be
     /// null where that is 0.
     pub fn ew_sheet(

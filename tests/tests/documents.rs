@@ -5,7 +5,7 @@
 
 use estrenwind_tests::answer::Answer;
 use estrenwind_tests::programs::{explain_output, run_output, sheet_output};
-use estrenwind_tests::reference::recipe::{frame, sheet, text, Way};
+use estrenwind_tests::reference::recipe::{frame, lines, sheet, text, Way};
 use estrenwind_tests::reference::{conversion, rounding, BINARY16, BINARY32};
 use std::collections::{BTreeMap, BTreeSet};
 use std::fs;
@@ -225,6 +225,7 @@ fn sizes_are_the_reference_s() {
         ("EW_RECIPE_LINE", text::LINE),
         ("EW_SHEET_LINE", sheet::LINE),
         ("EW_FRAME_INPUT", frame::DIGITS),
+        ("EW_ANSWER_LINE", lines::LONGEST_ANSWER),
     ] {
         let value = defined(name);
         assert_eq!(value.split(' ').next(), Some(size.to_string().as_str()));

@@ -108,6 +108,17 @@ pub struct ExplainAnswer {
     pub reason: u64,
 }
 
+/// A refusal's number and place; or how many bytes of lines were read and how many bytes of answers written. What is not used is 0.
+#[repr(C)]
+#[derive(Clone, Copy, Debug, PartialEq, Eq)]
+#[allow(missing_docs)]
+pub struct LinesAnswer {
+    pub refusal: u64,
+    pub place: u64,
+    pub read: u64,
+    pub written: u64,
+}
+
 // SAFETY: these are the signatures of estrenwind.h. Functions of numbers alone are safe for all of them.
 #[allow(missing_docs)]
 unsafe extern "C" {
@@ -160,6 +171,16 @@ unsafe extern "C" {
         words: *mut u64,
         words_len: usize,
     ) -> RunAnswer;
+
+    /// Each pointer is good for as many bytes as the length after it says, `answers` for writing too.
+    pub fn ew_run_lines(
+        text: *const u8,
+        text_len: usize,
+        lines: *const u8,
+        lines_len: usize,
+        answers: *mut u8,
+        answers_len: usize,
+    ) -> LinesAnswer;
 
     /// Each pointer is good for as many bytes as the length after it says, `sheet` for writing too.
     pub fn ew_sheet(

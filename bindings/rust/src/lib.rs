@@ -32,10 +32,12 @@
 
 pub mod c;
 mod explanation;
+mod format;
 pub mod half;
 mod number;
 mod recipe;
 
 pub use explanation::*;
+pub use format::*;
 pub use number::*;
 pub use recipe::*;

@@ -31,7 +31,7 @@ pub enum Value {
 }
 
 impl Value {
-    fn of(kind: u64, word: u64) -> Value {
+    pub(crate) fn of(kind: u64, word: u64) -> Value {
         match kind {
             1 => Value::Double(f64::from_bits(word)),
             2 => Value::Whole(word as i64),
@@ -270,6 +270,54 @@ pub fn sheet(recipe: &[u8], lines: &mut [u8]) -> Result<usize, TurnedDown> {
     };
     match answer.refusal {
         0 => Ok(answer.steps as usize),
+        refusal => Err(TurnedDown::of(refusal, answer.place)),
+    }
+}
+
+/// Bytes of memory that are enough for the answer to a frame line, and the least that [`run_lines`] works with.
+pub const ANSWER_LINE: usize = 19;
+
+/// How many bytes of frame lines [`run_lines`] has read, line feeds counted, and how many bytes of answers it has written.
+#[derive(Clone, Copy, Debug, PartialEq, Eq, Hash)]
+#[allow(missing_docs)]
+pub struct Lines {
+    pub read: usize,
+    pub written: usize,
+}
+
+/// Answers frame lines as the program `run` does, the recipe read once for all of them: each line that has its line feed by one line, 16
+/// digits after the kind or a refusal line, while there is room for [`ANSWER_LINE`] bytes. Bytes of `answers` past those written stay as they were.
+///
+/// What was not read is there for the next call, with the lines that follow it: the answers one after another are those of `run`.
+///
+/// ```
+/// use estrenwind::{run_lines, Lines};
+///
+/// let recipe = b"010000c004000000000000401d000000000000\n\
+///                10000000000000000000000000000000000000\n\
+///                18010000000000000000000000000000000000\n";
+/// let mut answers = [0; 64];
+/// let lines = b"bfe0000000000000\n401e000000000000\n3ff00";
+/// assert_eq!(run_lines(recipe, lines, &mut answers), Ok(Lines { read: 34, written: 26 }));
+/// assert_eq!(&answers[..26], b"02ffffffffffffffff\nff2000\n");
+/// ```
+pub fn run_lines(recipe: &[u8], lines: &[u8], answers: &mut [u8]) -> Result<Lines, TurnedDown> {
+    // SAFETY: the pointers and lengths are those of slices, and only `answers` is written.
+    let answer = unsafe {
+        c::ew_run_lines(
+            recipe.as_ptr(),
+            recipe.len(),
+            lines.as_ptr(),
+            lines.len(),
+            answers.as_mut_ptr(),
+            answers.len(),
+        )
+    };
+    match answer.refusal {
+        0 => Ok(Lines {
+            read: answer.read as usize,
+            written: answer.written as usize,
+        }),
         refusal => Err(TurnedDown::of(refusal, answer.place)),
     }
 }

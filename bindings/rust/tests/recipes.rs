@@ -1,8 +1,9 @@
 //! Sheets, explanations and runs through the crate: the examples of the repository, and the lent memory.
 
 use estrenwind::{
-    explain, run, sheet, Explanation, Fault, Reason, TurnedDown, Value, MOST_SHEET, MOST_STEPS,
-    SHEET_LINE,
+    explain, read_answer, run, run_lines, sheet, steps, Explanation, Fault, Kind, Lines, Operation,
+    Range, Reason, Step, TurnedDown, Value, ANSWER_LINE, FRAME_INPUT, MOST_FRAME, MOST_INPUTS,
+    MOST_SHEET, MOST_STEPS, RECIPE_LINE, SHEET_LINE,
 };
 use std::fs;
 use std::path::Path;
@@ -60,6 +61,160 @@ fn the_examples() {
         }
     }
     assert_eq!(found, 8);
+}
+
+/// A double, a whole number, and a step of this opcode on the two in these places.
+fn with_step(opcode: u8, a: usize, b: usize, p: u64, q: u64) -> Result<Explanation, TurnedDown> {
+    let text = format!(
+        "010000{:016x}{:016x}\n020000{:016x}{:016x}\n{opcode:02x}{a:02x}{b:02x}{p:016x}{q:016x}\n",
+        1f64.to_bits(),
+        2f64.to_bits(),
+        1,
+        2
+    );
+    explain(text.as_bytes())
+}
+
+/// The step of that kind in such a recipe.
+fn place_of(kind: Kind) -> usize {
+    match kind {
+        Kind::Whole => 1,
+        _ => 0,
+    }
+}
+
+/// Every row of the table of operations is as the library has it, and no other opcode is one: the library itself is asked.
+#[test]
+fn operations_are_the_library_s() {
+    for opcode in 0..=255 {
+        let Some(operation) = Operation::from_opcode(opcode) else {
+            assert_eq!(
+                with_step(opcode, 0, 0, 0, 0),
+                Err(turned_down(Fault::Opcode, 2))
+            );
+            continue;
+        };
+        let kinds = operation.operands();
+        let right: Vec<usize> = kinds.iter().map(|&kind| place_of(kind)).collect();
+        let at = |i: usize| right.get(i).copied().unwrap_or(0);
+        assert_eq!(
+            with_step(opcode, at(0), at(1), 0, 0),
+            Ok(Explanation::Passes),
+            "{operation:?}"
+        );
+        // An operand of the other kind is refused, and so is one where the operation has none.
+        for i in 0..2 {
+            let mut other = [at(0), at(1)];
+            other[i] = 1 - other[i];
+            let fault = if i < kinds.len() {
+                Fault::Kind
+            } else {
+                Fault::Unused
+            };
+            assert_eq!(
+                with_step(opcode, other[0], other[1], 0, 0),
+                Err(turned_down(fault, 2)),
+                "{operation:?}"
+            );
+        }
+        // P and Q are used by inputs, P by constants, neither by others; a low end above the high one is refused of inputs alone.
+        let used = [
+            operation.is_input() || operation.is_constant(),
+            operation.is_input(),
+        ];
+        let one = 1f64.to_bits();
+        for (p, q, used) in [(one, one, used[0] && used[1]), (one, 0, used[0])] {
+            let answer = with_step(opcode, at(0), at(1), p, q);
+            match used {
+                false => assert_eq!(answer, Err(turned_down(Fault::Unused, 2)), "{operation:?}"),
+                true if operation.is_input() && p > q => {
+                    assert_eq!(answer, Err(turned_down(Fault::Declared, 2)));
+                }
+                true => assert_eq!(answer, Ok(Explanation::Passes), "{operation:?}"),
+            }
+        }
+        // The kind of its value is what the sheet says, and the sheet's lines are what the crate reads.
+        let text = [
+            Step {
+                operation: Operation::Input,
+                a: 0,
+                b: 0,
+                p: one,
+                q: one,
+            },
+            Step {
+                operation: Operation::WholeInput,
+                a: 0,
+                b: 0,
+                p: 1,
+                q: 1,
+            },
+            Step {
+                operation,
+                a: at(0),
+                b: at(1),
+                p: 0,
+                q: 0,
+            },
+        ]
+        .map(|step| step.line())
+        .concat();
+        let read = steps(text.as_bytes()).unwrap();
+        assert_eq!(read[2].operation, operation);
+        let mut lines = [0; MOST_SHEET];
+        assert_eq!(sheet(text.as_bytes(), &mut lines), Ok(3));
+        let line = &lines[2 * SHEET_LINE..3 * SHEET_LINE - 1];
+        let range = Range::read(line).unwrap();
+        assert_eq!((range.step, range.kind), (2, operation.gives()));
+    }
+}
+
+/// The most inputs and the size of their fields, asked of the library.
+#[test]
+fn sizes_are_the_library_s() {
+    let input = Step {
+        operation: Operation::Input,
+        a: 0,
+        b: 0,
+        p: 0,
+        q: 0,
+    }
+    .line();
+    assert_eq!(input.len(), RECIPE_LINE);
+    let most = input.repeat(MOST_INPUTS);
+    let frame = "0".repeat(MOST_FRAME);
+    assert_eq!(MOST_FRAME, MOST_INPUTS * FRAME_INPUT);
+    let mut words = [0; MOST_STEPS];
+    assert_eq!(
+        run(most.as_bytes(), frame.as_bytes(), &mut words),
+        Ok(Value::Double(0.0))
+    );
+    let more = input.repeat(MOST_INPUTS + 1);
+    assert_eq!(
+        explain(more.as_bytes()),
+        Err(turned_down(Fault::Inputs, MOST_INPUTS))
+    );
+    let lines = frame + "\n";
+    for room in [ANSWER_LINE - 1, ANSWER_LINE] {
+        let mut answers = vec![7; room];
+        let answer = run_lines(most.as_bytes(), lines.as_bytes(), &mut answers);
+        if room < ANSWER_LINE {
+            assert_eq!(answer, Err(turned_down(Fault::Room, 0)));
+            assert_eq!(answers, [7; ANSWER_LINE - 1]);
+        } else {
+            assert_eq!(
+                answer,
+                Ok(Lines {
+                    read: MOST_FRAME + 1,
+                    written: ANSWER_LINE
+                })
+            );
+            assert_eq!(
+                read_answer(&answers[..ANSWER_LINE - 1]),
+                Some(Ok(Value::Double(0.0)))
+            );
+        }
+    }
 }
 
 #[test]
@@ -165,5 +320,5 @@ fn every_public_enum_may_grow() {
             }
         }
     }
-    assert_eq!(found, 6);
+    assert_eq!(found, 8);
 }

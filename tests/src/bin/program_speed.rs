@@ -1,117 +1,129 @@
-//! Times the built program `run` beside the plain one, on a million frames of a recipe of 20 steps.
+//! Times the built program `run` beside the plain one and beside the command `estrenwind run`, on a
+//! million frames of a recipe of 20 steps.
 //!
-//!     program_speed BUILT PLAIN FOLDER
+//!     program_speed BUILT PLAIN COMMAND FOLDER
 //!
-//! BUILT and PLAIN are the two programs; the frames are written to a file in FOLDER. The two take
-//! turns, and times and ratio are medians of the turns, so that what else the machine does falls on
-//! both. Fails where the outputs differ or the built one takes more than 1.5 times as long.
+//! The frames are written to files in FOLDER. The three take turns, and times and ratios are medians
+//! of the turns, so that what else the machine does falls on all. Fails where the outputs differ, the
+//! built program takes more than 1.5 times as long as the plain one, or the command more than 1.3
+//! times as long as the program.
 
-use estrenwind_tests::patterns::Random;
+use estrenwind_tests::speed::{median, write_frames, FRAMES, RECIPE};
 use std::env;
 use std::fs::{self, File};
-use std::io::{BufWriter, Write};
-use std::path::Path;
+use std::io::Write;
+use std::path::{Path, PathBuf};
 use std::process::{exit, Command, Stdio};
 use std::time::Instant;
 
-const FRAMES: u64 = 1_000_000;
 const TURNS: usize = 15;
-const MOST: f64 = 1.5;
+const MOST_OF_PLAIN: f64 = 1.5;
+const MOST_OF_PROGRAM: f64 = 1.3;
 
-/// Two texture coordinates, wrapped, rounded in several ways and joined to one index: steps of most
-/// opcodes.
-const RECIPE: &str = "\
-010000c0b000000000000040b0000000000000
-010000c0b000000000000040b0000000000000
-020000fffffffffffffff80000000000000008
-03000040700000000000000000000000000000
-0300003fe00000000000000000000000000000
-22000300000000000000000000000000000000
-22010300000000000000000000000000000000
-16050000000000000000000000000000000000
-16060000000000000000000000000000000000
-10070000000000000000000000000000000000
-14080000000000000000000000000000000000
-15070000000000000000000000000000000000
-230b0200000000000000000000000000000000
-130c0000000000000000000000000000000000
-20090a00000000000000000000000000000000
-21090d00000000000000000000000000000000
-180e0000000000000000000000000000000000
-180f0000000000000000000000000000000000
-30101100000000000000000000000000000000
-32120000000000000000000000000000000000
-";
+/// The recipe, the frames, and both with an empty line between them.
+struct Files {
+    recipe: PathBuf,
+    frames: PathBuf,
+    input: PathBuf,
+}
 
-fn write_frames(path: &Path) -> std::io::Result<()> {
-    let mut random = Random::new(81);
-    let mut file = BufWriter::new(File::create(path)?);
-    writeln!(file, "{RECIPE}")?;
-    for _ in 0..FRAMES {
-        let mut coordinate = || {
-            let fraction = (random.word() >> 11) as f64 / (1u64 << 53) as f64;
-            ((fraction - 0.5) * 8192.0).to_bits()
-        };
-        let (u, v) = (coordinate(), coordinate());
-        let n = random.within(-8..9);
-        writeln!(file, "{u:016x}{v:016x}{n:016x}")?;
+impl Files {
+    fn write(folder: &Path) -> std::io::Result<Files> {
+        let [recipe, frames, input] = ["recipe", "frames", "input"].map(|name| folder.join(name));
+        fs::write(&recipe, RECIPE)?;
+        write_frames(File::create(&frames)?)?;
+        let mut whole = File::create(&input)?;
+        writeln!(whole, "{RECIPE}")?;
+        std::io::copy(&mut File::open(&frames)?, &mut whole)?;
+        Ok(Files {
+            recipe,
+            frames,
+            input,
+        })
     }
-    file.flush()
+
+    fn remove(&self) -> std::io::Result<()> {
+        [&self.recipe, &self.frames, &self.input]
+            .into_iter()
+            .try_for_each(fs::remove_file)
+    }
 }
 
-fn seconds(program: &str, input: &Path) -> f64 {
-    let start = Instant::now();
-    let status = Command::new(program)
-        .stdin(File::open(input).expect("it was written"))
-        .stdout(Stdio::null())
-        .status();
-    let status = status.unwrap_or_else(|error| panic!("{program}: {error}"));
-    assert!(status.success(), "{program}: {status}");
-    start.elapsed().as_secs_f64()
+/// One of the three, started on the files.
+struct Timed<'a> {
+    program: &'a str,
+    is_command: bool,
 }
 
-fn output(program: &str, input: &Path) -> Vec<u8> {
-    let input = File::open(input).expect("it was written");
-    let output = Command::new(program).stdin(input).output();
-    output
-        .unwrap_or_else(|error| panic!("{program}: {error}"))
-        .stdout
-}
+impl Timed<'_> {
+    fn started(&self, files: &Files) -> Command {
+        let mut command = Command::new(self.program);
+        if self.is_command {
+            command.args(["run", "--quiet"]);
+            command.args([&files.recipe, &files.frames]);
+        } else {
+            command.stdin(File::open(&files.input).expect("it was written"));
+        }
+        command.stderr(Stdio::null());
+        command
+    }
 
-fn median(mut times: Vec<f64>) -> f64 {
-    times.sort_by(f64::total_cmp);
-    times[times.len() / 2]
+    fn seconds(&self, files: &Files) -> f64 {
+        let start = Instant::now();
+        let status = self.started(files).stdout(Stdio::null()).status();
+        let status = status.unwrap_or_else(|error| panic!("{}: {error}", self.program));
+        assert!(status.success(), "{}: {status}", self.program);
+        start.elapsed().as_secs_f64()
+    }
+
+    fn output(&self, files: &Files) -> Vec<u8> {
+        let output = self.started(files).output();
+        output
+            .unwrap_or_else(|error| panic!("{}: {error}", self.program))
+            .stdout
+    }
 }
 
 fn main() {
     let words: Vec<String> = env::args().skip(1).collect();
-    let [built, plain, folder] = &words[..] else {
-        eprintln!("program_speed BUILT PLAIN FOLDER");
+    let [built, plain, command, folder] = &words[..] else {
+        eprintln!("program_speed BUILT PLAIN COMMAND FOLDER");
         exit(2);
     };
-    let input = Path::new(folder).join("frames");
-    write_frames(&input).unwrap_or_else(|error| panic!("{}: {error}", input.display()));
-    let answers = output(built, &input);
-    assert!(answers == output(plain, &input), "the answers differ");
+    let files = Files::write(Path::new(folder)).unwrap_or_else(|error| panic!("{folder}: {error}"));
+    let timed =
+        [(built, false), (plain, false), (command, true)].map(|(program, is_command)| Timed {
+            program,
+            is_command,
+        });
+    let answers = timed[0].output(&files);
+    for other in &timed[1..] {
+        assert!(
+            answers == other.output(&files),
+            "the answers of {} differ",
+            other.program
+        );
+    }
     assert_eq!(answers.len() as u64, 19 * FRAMES);
     assert!(!answers.starts_with(b"ff"));
-    let (mut ours, mut theirs, mut ratios) = (Vec::new(), Vec::new(), Vec::new());
+    let mut times = [vec![], vec![], vec![]];
     for turn in 0..TURNS {
-        let [mut x, mut y] = [built, plain];
-        if turn % 2 == 1 {
-            (x, y) = (y, x);
+        for place in 0..3 {
+            let next = (turn + place) % 3;
+            times[next].push(timed[next].seconds(&files));
         }
-        let times = [seconds(x, &input), seconds(y, &input)];
-        let [our, their] = [times[turn % 2], times[1 - turn % 2]];
-        ours.push(our);
-        theirs.push(their);
-        ratios.push(our / their);
     }
-    fs::remove_file(&input).expect("it was written");
-    let (ours, theirs, ratio) = (median(ours), median(theirs), median(ratios));
-    println!("run, {FRAMES} frames of 20 steps: {ours:.2} s, a plain program {theirs:.2} s, {ratio:.2} times");
-    if ratio > MOST {
-        eprintln!("more than {MOST} times");
+    files.remove().expect("they were written");
+    let ratio = |x: usize, y: usize| {
+        let mut ratios: Vec<f64> = times[x].iter().zip(&times[y]).map(|(x, y)| x / y).collect();
+        median(&mut ratios)
+    };
+    let (of_plain, of_program) = (ratio(0, 1), ratio(2, 0));
+    let [ours, theirs, the_command] = times.map(|mut times| median(&mut times));
+    println!("run, {FRAMES} frames of 20 steps: {ours:.2} s, a plain program {theirs:.2} s, {of_plain:.2} times");
+    println!("estrenwind run, the same: {the_command:.2} s, {of_program:.2} times run");
+    if of_plain > MOST_OF_PLAIN || of_program > MOST_OF_PROGRAM {
+        eprintln!("more than {MOST_OF_PLAIN} or {MOST_OF_PROGRAM} times");
         exit(1);
     }
 }

@@ -1,6 +1,6 @@
 //! What the library is called with: a run, a sheet, or an explanation. Each reads the text of a
 //! recipe, and the first two write to memory that is lent, so what is said of all is said over
-//! `Call`.
+//! `Call`. A run of frame lines, which is one too, is in `lines`.
 
 use super::faults::{EXPLAIN_REFUSALS, REFUSALS, SHEET_REFUSALS};
 use super::growing::{grow, grow_sheet, Grow};
@@ -11,7 +11,7 @@ use crate::reference::recipe::{
 };
 use std::fmt;
 
-/// A run, a sheet or an explanation.
+/// A run, a run of frame lines, a sheet or an explanation.
 pub trait Call: Clone + fmt::Debug + fmt::Display + PartialEq + Send + Sync {
     type Answer: Copy + fmt::Debug + fmt::Display + PartialEq + From<Refusal>;
     /// A piece of the lent memory.
@@ -351,7 +351,7 @@ impl fmt::Display for ExplainCall {
     }
 }
 
-fn write_text(f: &mut fmt::Formatter, text: &[u8]) -> fmt::Result {
+pub(super) fn write_text(f: &mut fmt::Formatter, text: &[u8]) -> fmt::Result {
     let lines = text.escape_ascii().to_string().replace("\\n", "\n");
     writeln!(f, "text, {} bytes:\n{lines}", text.len())
 }

@@ -65,7 +65,7 @@ pub fn check<C: Call>(way: Way, call: &C) -> Outcome<C> {
 #[cfg(test)]
 mod tests {
     use super::*;
-    use crate::recipes::{ExplainCall, RunCall, SheetCall};
+    use crate::recipes::{ExplainCall, LinesCall, RunCall, SheetCall};
 
     /// A comparison that found nothing would let every library pass.
     fn every_difference_is_told<C: Call>(call: &C, changes: &[fn(&mut Outcome<C>)]) {
@@ -94,6 +94,30 @@ mod tests {
                 |outcome| outcome.answer.word += 1,
                 |outcome| outcome.memory[0] += 1,
                 |outcome| outcome.memory[4] += 1,
+            ],
+        );
+    }
+
+    #[test]
+    fn every_difference_of_frame_lines_is_told() {
+        const BEFORE: usize = LinesCall::BEFORE;
+        let call = LinesCall {
+            text: b"040000000000000000002a0000000000000000\n".to_vec(),
+            lines: b"\n0\n".to_vec(),
+            lent: 40,
+        };
+        every_difference_is_told(
+            &call,
+            &[
+                |outcome| outcome.answer.refusal += 1,
+                |outcome| outcome.answer.place += 1,
+                |outcome| outcome.answer.read += 1,
+                |outcome| outcome.answer.written += 1,
+                |outcome| outcome.memory[BEFORE - 1] += 1,
+                |outcome| outcome.memory[BEFORE] += 1,
+                |outcome| outcome.memory[BEFORE + 25] += 1,
+                |outcome| outcome.memory[BEFORE + 26] += 1,
+                |outcome| outcome.memory[BEFORE + 40] += 1,
             ],
         );
     }

@@ -1,5 +1,5 @@
-//! Damaged calls of runs, sheets and explanations: each refusal at the first, some or the last
-//! place, alone or beside another.
+//! Damaged calls of runs, frame lines, sheets and explanations: each refusal at the first, some or
+//! the last place, alone or beside another.
 //!
 //! A fault is known by the number of the refusal that it is there for.
 
@@ -12,6 +12,9 @@ use std::cmp::Ordering;
 
 /// Every refusal of a run.
 pub const REFUSALS: [u64; 15] = [10, 11, 12, 13, 14, 15, 16, 17, 40, 30, 31, 32, 20, 21, 22];
+
+/// Every refusal of a run of frame lines. Those of a frame are answers.
+pub const LINES_REFUSALS: [u64; 9] = [10, 11, 12, 13, 14, 15, 16, 17, 40];
 
 /// Every refusal of a sheet.
 pub const SHEET_REFUSALS: [u64; 12] = [10, 11, 12, 13, 14, 15, 16, 17, 40, 20, 21, 22];
@@ -340,7 +343,7 @@ fn input_outside(random: &mut Random, draft: &mut Draft) -> Option<usize> {
 mod tests {
     use super::*;
     use crate::recipes::comparison::Outcome;
-    use crate::recipes::{ExplainCall, RunCall, SheetCall};
+    use crate::recipes::{ExplainCall, LinesCall, RunCall, SheetCall};
     use std::collections::BTreeMap;
 
     /// "Order: 10; then line by line 11 to 17; then 40; for a run 30, 31, then 32 by input; then
@@ -369,8 +372,9 @@ mod tests {
         refusals
     }
 
-    const CALLS: [(Check, &[u64]); 3] = [
+    const CALLS: [(Check, &[u64]); 4] = [
         (check::<RunCall>, &REFUSALS),
+        (check::<LinesCall>, &LINES_REFUSALS),
         (check::<SheetCall>, &SHEET_REFUSALS),
         (check::<ExplainCall>, &EXPLAIN_REFUSALS),
     ];

@@ -1,23 +1,26 @@
-//! Calls of a run, of a sheet and of an explanation that the library is tried on: recipes of all
-//! lengths with frames for them, whole ones and damaged ones.
+//! Calls of a run, of frame lines, of a sheet and of an explanation that the library is tried on:
+//! recipes of all lengths with frames for them, whole ones and damaged ones.
 //!
 //! `growing` makes valid recipes along a frame or along ranges, `values` the constants, ranges and
 //! inputs in them, and `faults` damages them: one fault or two, each at the first, some or the last
-//! place. `reasons` makes recipes that are turned down for chosen reasons. `comparison` holds what
-//! the library makes of a call beside what the reference does, and `walks` is what all calls are
-//! tried on. `zeros` holds the rule of W-202 for the zeros in fmin and fmax beside document 01's.
+//! place. `lines` makes frame lines, whole and damaged, and `reasons` recipes that are turned down
+//! for chosen reasons. `comparison` holds what the library makes of a call beside what the reference
+//! does, and `walks` is what all calls are tried on. `zeros` holds the rule of W-202 for the zeros
+//! in fmin and fmax beside document 01's.
 
 pub mod calls;
 pub mod comparison;
 pub mod faults;
 pub mod growing;
 pub mod limits;
+pub mod lines;
 pub mod reasons;
 pub mod values;
 pub mod walks;
 pub mod zeros;
 
 pub use calls::{Call, ExplainCall, RunCall, SheetCall};
+pub use lines::LinesCall;
 
 use crate::reference::recipe::{sheet, text, Kind, Operation};
 

@@ -23,11 +23,16 @@ fn calls<C: Call>(seed: u64, rounds: usize) -> Vec<C> {
 }
 
 pub fn the_same_in_every_environment<C: Call>(seed: u64, rounds: usize) {
+    each_the_same_in_every_environment(calls::<C>(seed, rounds));
+}
+
+/// The same of these calls.
+pub fn each_the_same_in_every_environment<C: Call>(calls: Vec<C>) {
     let expected = |call: C| {
         let outcome = Outcome::expected(Way::Short, &call);
         (call, outcome)
     };
-    let calls: Vec<_> = calls(seed, rounds).into_iter().map(expected).collect();
+    let calls: Vec<_> = calls.into_iter().map(expected).collect();
     for environment in ENVIRONMENTS {
         let found = environment.run(|| {
             let found = calls.iter().find_map(|(call, expected)| {
@@ -47,7 +52,12 @@ pub fn the_same_in_every_environment<C: Call>(seed: u64, rounds: usize) {
 /// Integer arithmetic raises nothing. A floating-point operation shows by what it raises, even
 /// where its answers happen to be right.
 pub fn no_floating_point_operation<C: Call>(seed: u64, rounds: usize) {
-    for call in calls::<C>(seed, rounds) {
+    no_floating_point_operation_in(calls::<C>(seed, rounds));
+}
+
+/// The same of these calls.
+pub fn no_floating_point_operation_in<C: Call>(calls: Vec<C>) {
+    for call in calls {
         assert!(!leaves_a_trace(|| Outcome::library(&call)), "{call}");
     }
 }

@@ -2,13 +2,14 @@
 //! down" of document 01 and request W-205, rule by rule.
 //!
 //! `operations` is the table of steps, said once; `text` turns recipe text into steps, `frame`
-//! reads the inputs, `run` works the steps. `ranges` has the range rules, `sheet` works them step
-//! by step and writes them down, `explain` tells which fact about them a refusal comes from.
-//! Doubles and whole numbers travel as words of 64 bits, and a step's kind tells which of the two
-//! its word is.
+//! reads the inputs, `run` works the steps, and `lines` does so for one frame line after the other.
+//! `ranges` has the range rules, `sheet` works them step by step and writes them down, `explain`
+//! tells which fact about them a refusal comes from. Doubles and whole numbers travel as words of 64
+//! bits, and a step's kind tells which of the two its word is.
 
 pub mod explain;
 pub mod frame;
+pub mod lines;
 pub mod operations;
 pub mod ranges;
 pub mod run;
@@ -16,6 +17,7 @@ pub mod sheet;
 pub mod text;
 
 pub use explain::{explain, Explanation};
+pub use lines::{run_lines, Answers};
 pub use operations::{Kind, Operation, Source, Way, OPERATIONS};
 pub use ranges::Range;
 pub use run::{run, StepValue};

@@ -17,8 +17,13 @@ pub fn run(way: Way, text: &[u8], frame: &[u8], lent: usize) -> Result<Vec<StepV
     if lent < steps.len() {
         return Err(Refusal::whole_call(40));
     }
-    let inputs = frame::inputs(way, &steps, frame)?;
-    values(way, &steps, &inputs)
+    over(way, &steps, frame)
+}
+
+/// Every step's value over a frame, for a recipe that is read and has its memory.
+pub fn over(way: Way, steps: &[Step], frame: &[u8]) -> Result<Vec<StepValue>, Refusal> {
+    let inputs = frame::inputs(way, steps, frame)?;
+    values(way, steps, &inputs)
 }
 
 /// Every step's value, steps in order.

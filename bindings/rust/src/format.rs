@@ -1,0 +1,344 @@
+//! How recipes, sheets, frames and answers are written: what they measure, and their lines as values.
+
+use crate::recipe::Value;
+
+/// Bytes of a recipe per step, its line feed counted.
+pub const RECIPE_LINE: usize = 39;
+
+/// Inputs that a recipe may have.
+pub const MOST_INPUTS: usize = 16;
+
+/// Bytes of a frame per input.
+pub const FRAME_INPUT: usize = 16;
+
+/// Bytes of the longest frame.
+pub const MOST_FRAME: usize = MOST_INPUTS * FRAME_INPUT;
+
+/// The version of the library, which is also this crate's.
+pub const VERSION: &str = env!("CARGO_PKG_VERSION");
+
+/// What a step's value is. Later versions may have more.
+#[derive(Clone, Copy, Debug, PartialEq, Eq, Hash)]
+#[non_exhaustive]
+pub enum Kind {
+    /// 01: a double.
+    Double,
+    /// 02: a whole number of 64 bits.
+    Whole,
+}
+
+impl Kind {
+    /// The kind's number.
+    pub fn number(self) -> u64 {
+        match self {
+            Kind::Double => 1,
+            Kind::Whole => 2,
+        }
+    }
+
+    /// The kind of a number.
+    pub fn from_number(number: u64) -> Option<Kind> {
+        [Kind::Double, Kind::Whole]
+            .into_iter()
+            .find(|kind| kind.number() == number)
+    }
+
+    /// The value of this kind that 64 bits stand for.
+    pub fn value(self, word: u64) -> Value {
+        Value::of(self.number(), word)
+    }
+}
+
+/// What a step does. Later versions may have more.
+#[derive(Clone, Copy, Debug, PartialEq, Eq, Hash)]
+#[allow(missing_docs)]
+#[non_exhaustive]
+pub enum Operation {
+    /// An input, a double from P to Q.
+    Input,
+    /// An input, a whole number from P to Q.
+    WholeInput,
+    /// The double P.
+    Constant,
+    /// The whole number P.
+    WholeConstant,
+    Floor,
+    Ceil,
+    Trunc,
+    Round,
+    Nearbyint,
+    /// The fraction of A, as modf gives it.
+    Fraction,
+    Fabs,
+    Negate,
+    Lround,
+    Fmin,
+    Fmax,
+    Fmod,
+    Ldexp,
+    /// A + B of whole numbers.
+    Sum,
+    /// A - B of whole numbers.
+    Difference,
+    /// The whole number A as a double.
+    ToDouble,
+}
+
+/// What there is to know of an operation.
+struct Row {
+    operation: Operation,
+    opcode: u8,
+    name: &'static str,
+    operands: &'static [Kind],
+    gives: Kind,
+}
+
+const fn row(
+    operation: Operation,
+    opcode: u8,
+    name: &'static str,
+    operands: &'static [Kind],
+    gives: Kind,
+) -> Row {
+    Row {
+        operation,
+        opcode,
+        name,
+        operands,
+        gives,
+    }
+}
+
+const D: Kind = Kind::Double;
+const W: Kind = Kind::Whole;
+
+/// In the order of opcodes, which is that of the enum. The crate's tests ask the library about every row, and about every opcode without one.
+const ROWS: [Row; 20] = [
+    row(Operation::Input, 0x01, "input", &[], D),
+    row(Operation::WholeInput, 0x02, "input whole", &[], W),
+    row(Operation::Constant, 0x03, "constant", &[], D),
+    row(Operation::WholeConstant, 0x04, "constant whole", &[], W),
+    row(Operation::Floor, 0x10, "floor", &[D], D),
+    row(Operation::Ceil, 0x11, "ceil", &[D], D),
+    row(Operation::Trunc, 0x12, "trunc", &[D], D),
+    row(Operation::Round, 0x13, "round", &[D], D),
+    row(Operation::Nearbyint, 0x14, "nearbyint", &[D], D),
+    row(Operation::Fraction, 0x15, "fraction", &[D], D),
+    row(Operation::Fabs, 0x16, "fabs", &[D], D),
+    row(Operation::Negate, 0x17, "negate", &[D], D),
+    row(Operation::Lround, 0x18, "lround", &[D], W),
+    row(Operation::Fmin, 0x20, "fmin", &[D, D], D),
+    row(Operation::Fmax, 0x21, "fmax", &[D, D], D),
+    row(Operation::Fmod, 0x22, "fmod", &[D, D], D),
+    row(Operation::Ldexp, 0x23, "ldexp", &[D, W], D),
+    row(Operation::Sum, 0x30, "sum", &[W, W], W),
+    row(Operation::Difference, 0x31, "difference", &[W, W], W),
+    row(Operation::ToDouble, 0x32, "to_double", &[W], D),
+];
+
+impl Operation {
+    fn row(self) -> &'static Row {
+        &ROWS[self as usize]
+    }
+
+    /// All of them, in the order of their opcodes.
+    pub fn all() -> impl Iterator<Item = Operation> {
+        ROWS.iter().map(|row| row.operation)
+    }
+
+    /// The operation of an opcode.
+    pub fn from_opcode(opcode: u8) -> Option<Operation> {
+        Operation::all().find(|operation| operation.opcode() == opcode)
+    }
+
+    /// Its opcode.
+    pub fn opcode(self) -> u8 {
+        self.row().opcode
+    }
+
+    /// Its name: that of the C function where there is one.
+    pub fn name(self) -> &'static str {
+        self.row().name
+    }
+
+    /// The kinds of the steps that it works on: none, A's, or A's and B's.
+    pub fn operands(self) -> &'static [Kind] {
+        self.row().operands
+    }
+
+    /// The kind of its value.
+    pub fn gives(self) -> Kind {
+        self.row().gives
+    }
+
+    /// Whether its value comes from the frame.
+    pub fn is_input(self) -> bool {
+        matches!(self, Operation::Input | Operation::WholeInput)
+    }
+
+    /// Whether its value stands in the recipe.
+    pub fn is_constant(self) -> bool {
+        matches!(self, Operation::Constant | Operation::WholeConstant)
+    }
+}
+
+/// The number that lower-case hexadecimal digits write, 16 of them at most.
+pub fn read_digits(digits: &[u8]) -> Option<u64> {
+    let digit = |&byte: &u8| match byte {
+        b'0'..=b'9' => Some(u64::from(byte - b'0')),
+        b'a'..=b'f' => Some(u64::from(byte - b'a') + 10),
+        _ => None,
+    };
+    if digits.len() > 16 {
+        return None;
+    }
+    digits
+        .iter()
+        .try_fold(0, |number, byte| Some(number << 4 | digit(byte)?))
+}
+
+/// Takes fields of lower-case hexadecimal digits off the front of a line.
+struct Fields<'a>(&'a [u8]);
+
+impl Fields<'_> {
+    fn next(&mut self, count: usize) -> Option<u64> {
+        let (field, rest) = self.0.split_at_checked(count)?;
+        self.0 = rest;
+        read_digits(field)
+    }
+}
+
+/// A line of a recipe. What its operation does not use is 0.
+///
+/// ```
+/// use estrenwind::{Operation, Step};
+///
+/// let floor = Step::read(b"10000000000000000000000000000000000000").unwrap();
+/// assert_eq!((floor.operation, floor.a), (Operation::Floor, 0));
+/// assert_eq!(floor.line(), "10000000000000000000000000000000000000\n");
+/// ```
+#[derive(Clone, Copy, Debug, PartialEq, Eq, Hash)]
+#[allow(missing_docs)]
+pub struct Step {
+    pub operation: Operation,
+    pub a: usize,
+    pub b: usize,
+    pub p: u64,
+    pub q: u64,
+}
+
+impl Step {
+    /// The step of a line without its line feed. Its fields may be any: whether the step may stand in a recipe, only the library says.
+    pub fn read(line: &[u8]) -> Option<Step> {
+        let mut fields = Fields(line);
+        let step = Step {
+            operation: Operation::from_opcode(fields.next(2)? as u8)?,
+            a: fields.next(2)? as usize,
+            b: fields.next(2)? as usize,
+            p: fields.next(16)?,
+            q: fields.next(16)?,
+        };
+        fields.0.is_empty().then_some(step)
+    }
+
+    /// Its line, with the line feed. A and B are below 256.
+    pub fn line(&self) -> String {
+        let opcode = self.operation.opcode();
+        format!(
+            "{opcode:02x}{:02x}{:02x}{:016x}{:016x}\n",
+            self.a, self.b, self.p, self.q
+        )
+    }
+
+    /// The steps that it works on: none, A, or A and B.
+    pub fn operands(&self) -> impl Iterator<Item = usize> {
+        [self.a, self.b]
+            .into_iter()
+            .take(self.operation.operands().len())
+    }
+}
+
+/// The steps of a recipe that the library has read.
+pub fn steps(recipe: &[u8]) -> Option<Vec<Step>> {
+    recipe
+        .chunks(RECIPE_LINE)
+        .map(|line| Step::read(line.strip_suffix(b"\n")?))
+        .collect()
+}
+
+/// A line of a [`sheet`](crate::sheet): a step's kind and the ends of its range, 64 bits each.
+#[derive(Clone, Copy, Debug, PartialEq, Eq, Hash)]
+#[allow(missing_docs)]
+pub struct Range {
+    pub step: usize,
+    pub kind: Kind,
+    pub low: u64,
+    pub high: u64,
+}
+
+impl Range {
+    /// The range of a line without its line feed.
+    pub fn read(line: &[u8]) -> Option<Range> {
+        let mut fields = Fields(line);
+        let range = Range {
+            step: fields.next(2)? as usize,
+            kind: Kind::from_number(fields.next(2)?)?,
+            low: fields.next(16)?,
+            high: fields.next(16)?,
+        };
+        fields.0.is_empty().then_some(range)
+    }
+}
+
+/// The answer to a frame, or the refusal, that a line without its line feed writes.
+///
+/// ```
+/// use estrenwind::{read_answer, Fault, Value};
+///
+/// assert_eq!(read_answer(b"02ffffffffffffffff"), Some(Ok(Value::Whole(-1))));
+/// let refused = read_answer(b"ff2000").unwrap().unwrap_err();
+/// assert_eq!((refused.fault, refused.place), (Fault::Input, 0));
+/// ```
+pub fn read_answer(line: &[u8]) -> Option<Result<Value, crate::TurnedDown>> {
+    let mut fields = Fields(line);
+    let answer = match fields.next(2)? {
+        REFUSED => Err(crate::TurnedDown::of(fields.next(2)?, fields.next(2)?)),
+        kind => Ok(Kind::from_number(kind)?.value(fields.next(16)?)),
+    };
+    fields.0.is_empty().then_some(answer)
+}
+
+/// What a refusal line begins with, where an answer has its kind.
+const REFUSED: u64 = 0xff;
+
+/// The refusal's line, as the programs write it, without its line feed.
+pub fn refusal_line(refused: crate::TurnedDown) -> String {
+    format!("ff{:02x}{:02x}", refused.fault.number(), refused.place)
+}
+
+#[cfg(test)]
+mod tests {
+    use super::*;
+
+    #[test]
+    fn rows_stand_where_the_enum_says() {
+        for operation in Operation::all() {
+            assert_eq!(operation.row().operation, operation);
+            assert_eq!(Operation::from_opcode(operation.opcode()), Some(operation));
+        }
+    }
+
+    #[test]
+    fn lines_of_other_lengths_are_none() {
+        let line = b"10000000000000000000000000000000000000";
+        assert!(Step::read(line).is_some());
+        assert!(Step::read(&line[1..]).is_none());
+        assert!(Step::read(b"100000000000000000000000000000000000000").is_none());
+        assert!(Step::read(b"1000000000000000000000000000000000000G").is_none());
+        assert!(Range::read(b"0001c004000000000000401d000000000000").is_some());
+        assert!(Range::read(b"0001c004000000000000401d0000000000000").is_none());
+        assert!(Range::read(b"0003c004000000000000401d000000000000").is_none());
+        assert!(read_answer(b"02ffffffffffffffff0").is_none());
+        assert!(read_answer(b"ff200").is_none());
+    }
+}

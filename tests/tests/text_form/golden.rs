@@ -1,0 +1,147 @@
+//! What the command prints, to the byte, in 80 columns: stored under `golden/`, one file for each example and one for slips.
+//!
+//! With ESTRENWIND_GOLDEN=write in the environment the files are written anew, to be read before they are committed.
+
+use crate::{estrenwind, fits_80_columns, Ran};
+use std::fs;
+use std::path::{Path, PathBuf};
+
+fn golden(name: &str) -> PathBuf {
+    Path::new(env!("CARGO_MANIFEST_DIR")).join(format!("tests/text_form/golden/{name}.txt"))
+}
+
+/// A command as one would type it, and all that came of it.
+fn shown(arguments: &[&str], ran: Ran) -> String {
+    let errors: String = ran
+        .errors
+        .lines()
+        .map(|line| format!("! {line}\n"))
+        .collect();
+    format!(
+        "$ estrenwind {}\n{}{errors}[{}]\n\n",
+        arguments.join(" "),
+        ran.output,
+        ran.status
+    )
+}
+
+#[track_caller]
+fn compare(name: &str, text: &str) {
+    let path = golden(name);
+    if std::env::var_os("ESTRENWIND_GOLDEN").is_some_and(|value| value == "write") {
+        fs::create_dir_all(path.parent().unwrap()).unwrap();
+        fs::write(&path, text).unwrap();
+    }
+    let stored =
+        fs::read_to_string(&path).unwrap_or_else(|error| panic!("{}: {error}", path.display()));
+    if stored != text {
+        let place = stored
+            .lines()
+            .zip(text.lines())
+            .take_while(|(x, y)| x == y)
+            .count();
+        panic!(
+            "{} differs from line {} on:\nstored: {:?}\nnow:    {:?}",
+            path.display(),
+            place + 1,
+            stored.lines().nth(place),
+            text.lines().nth(place)
+        );
+    }
+}
+
+#[test]
+fn examples() {
+    let names = [
+        "camera_wrap",
+        "divisor_through_zero",
+        "index_clamp",
+        "ldexp_out_of_range",
+        "texture_index",
+        "turned_down",
+        "two_zeros",
+        "whole_too_big",
+    ];
+    for name in names {
+        let file = |file: &str| format!("examples/{name}/{file}");
+        let [source, recipe, frames, decimal] =
+            ["recipe.ew", "recipe", "frames", "frames.txt"].map(file);
+        let commands: [&[&str]; 9] = [
+            &["check", &source],
+            &["sheet", &source],
+            &["sheet", "--hex", &source],
+            &["explain", &source],
+            &["dis", &recipe],
+            &["run", "--quiet", &source, &frames],
+            &["run", "--quiet", "--decimal", &source, &decimal],
+            &["run", "--trace", "1", &source, &frames],
+            &["run", "--trace", "3", "--decimal", &source, &decimal],
+        ];
+        let text: String = commands
+            .iter()
+            .map(|arguments| {
+                let ran = estrenwind(arguments, "");
+                if !arguments.contains(&"--json") {
+                    fits_80_columns(&ran.output);
+                    fits_80_columns(&ran.errors);
+                }
+                shown(arguments, ran)
+            })
+            .collect();
+        compare(name, &text);
+    }
+}
+
+/// Each text, and what check says of it.
+#[test]
+fn slips_in_the_text_form() {
+    let texts = [
+        "u = input 0 .. 1\nwidth = input 1 .. 64\nx = fmod u widht\ny = flor x\n",
+        "u = input 0 .. 1\nu = input 1 .. 2\n",
+        "y = floor u\nu = input 0 .. 1\n",
+        "u = input 1 .. 0\n",
+        "u = input 0 .. 1\nn = sum u 1\n",
+        "u = input 0 .. 1\nx = ldexp u 0.5\n",
+        "half = 0.5\n",
+        "u = input 0 .. 1\nx = max(u, 0.5)\n",
+        "u = input 0 .. 1e400\n",
+        "u = input 0x1.00000000000001p0 .. 2\n",
+        "a_name_that_is_much_longer_than_it_needs_to_be = input 0 .. 1\n",
+        "u = input 0 .. 1\nanswer = lround u u u u u u u u u u u u u u u u u u u u u u u u u u u u u u u u u u\n",
+        "# nothing but words\n",
+        "caf\u{e9} = input 0 .. 1\n",
+    ];
+    let text: String = texts
+        .iter()
+        .map(|text| {
+            let ran = estrenwind(&["check", "-"], text);
+            fits_80_columns(&ran.errors);
+            format!("{text}{}", shown(&["check", "-"], ran))
+        })
+        .collect();
+    compare("slips", &text);
+}
+
+/// Ranges and names as wide as they can be.
+#[test]
+fn wide_tables() {
+    let long = "n".repeat(29);
+    let recipe = format!(
+        "{long}1 = input -2.2250738585072014e-308 .. 1.7976931348623157e308\n\
+         {long}2 = input whole -4611686018427387904 .. 4611686018427387903\n\
+         {long}3 = fmax {long}1 -1.2345678901234567e-300\n\
+         {long}4 = difference {long}2 {long}2\n\
+         short = fmin {long}1 {long}3\n"
+    );
+    let text: String = [&["sheet", "-"][..], &["dis", "-"]]
+        .into_iter()
+        .map(|arguments| {
+            let ran = estrenwind(arguments, &recipe);
+            if arguments[0] == "sheet" {
+                fits_80_columns(&ran.output);
+            }
+            shown(arguments, ran)
+        })
+        .collect();
+    compare("wide", &text);
+}

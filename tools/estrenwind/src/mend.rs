@@ -1,0 +1,420 @@
+//! What would mend a recipe that is refused a sheet. Every mend is made to a copy of the steps and shown only where the library then takes the
+//! step, so that none is a guess.
+
+use crate::explain::Reason;
+use crate::number;
+use crate::recipe::{constant, text_of};
+use estrenwind::{explain, Cause, Explanation, Kind, Operation, Step};
+
+/// A change to a recipe.
+#[derive(Clone, Copy, Debug)]
+enum Mend {
+    /// An input from another low end, to another high end, or both.
+    Declare {
+        input: usize,
+        low: Option<u64>,
+        high: Option<u64>,
+    },
+    /// fmin or fmax of the operand A (or B) of a step with a number, put before the step.
+    Bound {
+        at: usize,
+        on_b: bool,
+        operation: Operation,
+        limit: f64,
+    },
+    /// Both: fmax with one number and fmin with another, of the operand A of a step.
+    Clamp { at: usize, low: f64, high: f64 },
+    /// Another constant.
+    Constant { step: usize, word: u64 },
+}
+
+/// Steps with fmin or fmax put before step `at`, and the same on its operand. Later steps move by two.
+fn bounded(steps: &[Step], at: usize, on_b: bool, operation: Operation, limit: f64) -> Vec<Step> {
+    let moved = |k: usize| if k < at { k } else { k + 2 };
+    let operand = if on_b { steps[at].b } else { steps[at].a };
+    let mut mended = steps[..at].to_vec();
+    mended.push(constant(Kind::Double, limit.to_bits()));
+    mended.push(Step {
+        operation,
+        a: operand,
+        b: at,
+        p: 0,
+        q: 0,
+    });
+    mended.extend(steps[at..].iter().map(|step| {
+        let operands = step.operation.operands().len();
+        Step {
+            a: if operands > 0 { moved(step.a) } else { 0 },
+            b: if operands > 1 { moved(step.b) } else { 0 },
+            ..*step
+        }
+    }));
+    let place = if on_b {
+        &mut mended[at + 2].b
+    } else {
+        &mut mended[at + 2].a
+    };
+    *place = at + 1;
+    mended
+}
+
+impl Mend {
+    fn made(&self, steps: &[Step]) -> Vec<Step> {
+        let mut mended = steps.to_vec();
+        match *self {
+            Mend::Declare { input, low, high } => {
+                mended[input].p = low.unwrap_or(mended[input].p);
+                mended[input].q = high.unwrap_or(mended[input].q);
+            }
+            Mend::Constant { step, word } => mended[step].p = word,
+            Mend::Bound {
+                at,
+                on_b,
+                operation,
+                limit,
+            } => return bounded(steps, at, on_b, operation, limit),
+            Mend::Clamp { at, low, high } => {
+                let once = bounded(steps, at, false, Operation::Fmax, low);
+                return bounded(&once, at + 2, false, Operation::Fmin, high);
+            }
+        }
+        mended
+    }
+
+    /// Whether the library takes the refused step, and all before it, once this is done.
+    fn helps(&self, reason: &Reason) -> bool {
+        let front = &reason.recipe.steps[..=reason.step];
+        explain(&text_of(&self.made(front))) == Ok(Explanation::Passes)
+    }
+
+    fn words(&self, reason: &Reason) -> String {
+        let name = |k: usize| &reason.recipe.names[k];
+        let double = |x: f64| number::word_text(Kind::Double, x.to_bits());
+        match *self {
+            Mend::Declare { input, low, high } => {
+                let text = |word: u64| number::word_text(reason.recipe.kind(input), word);
+                match (low, high) {
+                    (Some(low), Some(high)) => format!(
+                        "declare {} from {} to {}",
+                        name(input),
+                        text(low),
+                        text(high)
+                    ),
+                    (Some(low), None) => format!("declare {} from {}", name(input), text(low)),
+                    (_, high) => {
+                        format!("declare {} up to {}", name(input), text(high.unwrap_or(0)))
+                    }
+                }
+            }
+            Mend::Bound {
+                at,
+                on_b,
+                operation,
+                limit,
+            } => {
+                let step = &reason.recipe.steps[at];
+                let operand = name(if on_b { step.b } else { step.a });
+                let it = if at == reason.step {
+                    "it".to_owned()
+                } else {
+                    name(at).clone()
+                };
+                format!(
+                    "put {} {operand} {} before {it}",
+                    operation.name(),
+                    double(limit)
+                )
+            }
+            Mend::Clamp { at, low, high } => {
+                let operand = name(reason.recipe.steps[at].a);
+                let it = if at == reason.step {
+                    "it".to_owned()
+                } else {
+                    name(at).clone()
+                };
+                format!(
+                    "put fmax {operand} {}, and fmin of that with {}, before {it}",
+                    double(low),
+                    double(high)
+                )
+            }
+            Mend::Constant { step, word } => {
+                let number = number::word_text(reason.recipe.kind(step), word);
+                format!("take {number} in the place of the constant {}", name(step))
+            }
+        }
+    }
+}
+
+/// What would mend it, in words: a change of what is declared, and a step to put in, as far as there are such.
+pub fn mends(reason: &Reason) -> Vec<String> {
+    let first = |mends: Vec<Mend>| mends.into_iter().find(|mend| mend.helps(reason));
+    let found = [first(declarations(reason)), first(insertions(reason))];
+    found
+        .into_iter()
+        .flatten()
+        .map(|mend| mend.words(reason))
+        .collect()
+}
+
+/// Doubles that most numbers of a scene lie well within; the first that helps is taken.
+const WIDE: [f64; 3] = [1e9, 1e3, 1.0];
+
+/// Whole numbers of which two add up within 64 bits.
+const HALF_OF_WHOLE: i64 = 4_000_000_000_000_000_000;
+
+/// Doubles whose lround fits 64 bits.
+const LROUND_FITS: f64 = 1e18;
+
+/// Whole numbers up to this have a double, 2^53.
+const EXACT: i64 = 1 << 53;
+
+fn operation_at(reason: &Reason, k: usize) -> Operation {
+    reason.recipe.steps[k].operation
+}
+
+fn double_ends(reason: &Reason, k: usize) -> (f64, f64) {
+    let range = &reason.ranges[k];
+    (f64::from_bits(range.low), f64::from_bits(range.high))
+}
+
+/// Inputs declared narrower, and constants of other values.
+fn declarations(reason: &Reason) -> Vec<Mend> {
+    let operand = reason.operand;
+    let is_input = |k: usize| operation_at(reason, k).is_input();
+    let step = reason.recipe.steps[reason.step];
+    let declare =
+        |input: usize, low: Option<u64>, high: Option<u64>| Mend::Declare { input, low, high };
+    let double = |x: f64| Some(x.to_bits());
+    match reason.cause {
+        Cause::DivisorHoldsZero if is_input(operand) => match off_zero(reason) {
+            Some((Operation::Fmax, limit)) => vec![declare(operand, double(limit), None)],
+            Some((_, limit)) => vec![declare(operand, None, double(limit))],
+            None => vec![],
+        },
+        Cause::DivisorHoldsZero if operation_at(reason, operand).is_constant() => {
+            vec![Mend::Constant {
+                step: operand,
+                word: 1f64.to_bits(),
+            }]
+        }
+        Cause::DividendLowInfinite
+        | Cause::DividendHighInfinite
+        | Cause::LdexpLowInfinite
+        | Cause::LdexpHighInfinite
+        | Cause::LroundLow
+        | Cause::LroundHigh
+            if is_input(operand) =>
+        {
+            limits(reason)
+                .iter()
+                .flat_map(|&limit| {
+                    [
+                        declare(operand, double(-limit), None),
+                        declare(operand, None, double(limit)),
+                        declare(operand, double(-limit), double(limit)),
+                    ]
+                })
+                .collect()
+        }
+        Cause::WholeLow | Cause::WholeHigh => within(
+            &whole_inputs(reason, &[step.a, step.b]),
+            &[HALF_OF_WHOLE, EXACT],
+        ),
+        Cause::LdexpLowOverflows | Cause::LdexpHighOverflows => {
+            let changed = |word: u64| {
+                if is_input(step.b) {
+                    Some(declare(step.b, None, Some(word)))
+                } else if operation_at(reason, step.b).is_constant() {
+                    Some(Mend::Constant { step: step.b, word })
+                } else {
+                    None
+                }
+            };
+            let least = if is_input(step.b) {
+                reason.recipe.steps[step.b].p as i64
+            } else {
+                i64::MIN
+            };
+            largest(reason, least, changed).into_iter().collect()
+        }
+        Cause::TooBigLow | Cause::TooBigHigh => within(
+            &whole_inputs(reason, &[operand]),
+            &[EXACT, EXACT / 2, EXACT / 4],
+        ),
+        _ => vec![],
+    }
+}
+
+/// Each of these inputs within each of these limits, at its low end, at its high end, and at both.
+fn within(inputs: &[usize], limits: &[i64]) -> Vec<Mend> {
+    let mut mends = Vec::new();
+    for limit in limits {
+        for &input in inputs {
+            let (low, high) = (Some(-limit as u64), Some(*limit as u64));
+            let ends = [(low, None), (None, high), (low, high)];
+            mends.extend(ends.map(|(low, high)| Mend::Declare { input, low, high }));
+        }
+    }
+    mends
+}
+
+/// The inputs that some steps are, or that they come from by sums and differences alone.
+fn whole_inputs(reason: &Reason, steps: &[usize]) -> Vec<usize> {
+    let mut behind = vec![false; reason.step];
+    for &k in steps {
+        behind[k] = true;
+    }
+    // Operands stand before their steps, so that one way down finds all of them.
+    for k in (0..reason.step).rev() {
+        if behind[k]
+            && matches!(
+                operation_at(reason, k),
+                Operation::Sum | Operation::Difference
+            )
+        {
+            for operand in reason.recipe.steps[k].operands() {
+                behind[operand] = true;
+            }
+        }
+    }
+    (0..reason.step)
+        .filter(|&k| behind[k] && operation_at(reason, k) == Operation::WholeInput)
+        .collect()
+}
+
+/// fmin and fmax put in.
+fn insertions(reason: &Reason) -> Vec<Mend> {
+    let at = reason.step;
+    let bound = |operation, limit| Mend::Bound {
+        at,
+        on_b: false,
+        operation,
+        limit,
+    };
+    let both = |at: usize, limit: f64| {
+        [
+            Mend::Bound {
+                at,
+                on_b: false,
+                operation: Operation::Fmax,
+                limit: -limit,
+            },
+            Mend::Bound {
+                at,
+                on_b: false,
+                operation: Operation::Fmin,
+                limit,
+            },
+            Mend::Clamp {
+                at,
+                low: -limit,
+                high: limit,
+            },
+        ]
+    };
+    match reason.cause {
+        Cause::DivisorHoldsZero => off_zero(reason)
+            .map(|(operation, limit)| Mend::Bound {
+                at,
+                on_b: true,
+                operation,
+                limit,
+            })
+            .into_iter()
+            .collect(),
+        Cause::DividendLowInfinite
+        | Cause::DividendHighInfinite
+        | Cause::LdexpLowInfinite
+        | Cause::LdexpHighInfinite
+        | Cause::LroundLow
+        | Cause::LroundHigh => limits(reason)
+            .iter()
+            .flat_map(|&limit| both(at, limit))
+            .collect(),
+        Cause::LdexpLowOverflows | Cause::LdexpHighOverflows => WIDE
+            .iter()
+            .flat_map(|&limit| {
+                [
+                    bound(Operation::Fmax, -limit),
+                    bound(Operation::Fmin, limit),
+                ]
+                .into_iter()
+                .chain(both(at, limit))
+            })
+            .collect(),
+        // Whole numbers have no fmin: where they come from lround, what it rounds is bounded.
+        Cause::TooBigLow | Cause::TooBigHigh
+            if operation_at(reason, reason.operand) == Operation::Lround =>
+        {
+            both(reason.operand, EXACT as f64).to_vec()
+        }
+        Cause::WholeLow | Cause::WholeHigh => {
+            let step = reason.recipe.steps[at];
+            let rounded = |&k: &usize| operation_at(reason, k) == Operation::Lround;
+            [step.a, step.b]
+                .into_iter()
+                .filter(rounded)
+                .flat_map(|k| both(k, LROUND_FITS))
+                .collect()
+        }
+        _ => vec![],
+    }
+}
+
+/// The numbers within which a cause is no more.
+fn limits(reason: &Reason) -> &'static [f64] {
+    match reason.cause {
+        Cause::LroundLow | Cause::LroundHigh => &[LROUND_FITS],
+        _ => &WIDE,
+    }
+}
+
+/// How a divisor is kept off zero: by fmax or fmin, with 1 or the end of its range that is nearer to zero.
+fn off_zero(reason: &Reason) -> Option<(Operation, f64)> {
+    let (low, high) = double_ends(reason, reason.operand);
+    if high > 0.0 {
+        Some((Operation::Fmax, high.min(1.0)))
+    } else if low < 0.0 {
+        Some((Operation::Fmin, low.max(-1.0)))
+    } else {
+        None
+    }
+}
+
+/// The change by the largest power of two that helps, from the least that may be: what is smaller helps too.
+fn largest(reason: &Reason, least: i64, changed: impl Fn(u64) -> Option<Mend>) -> Option<Mend> {
+    // No double is scaled up by more than 2,098 powers and stays one, and by so many down each becomes a zero.
+    let (mut helps, mut fails) = (least.clamp(-2_200, 2_200), 2_200i64);
+    changed(helps as u64)?;
+    while fails - helps > 1 {
+        let middle = (helps + fails) / 2;
+        if changed(middle as u64)?.helps(reason) {
+            helps = middle;
+        } else {
+            fails = middle;
+        }
+    }
+    changed(helps as u64)
+}
+
+/// What to do about a cause where no single change was found that helps.
+pub fn general(cause: Cause) -> &'static str {
+    match cause {
+        Cause::DivisorHoldsZero => "divide by a step that is never zero",
+        Cause::DividendLowInfinite | Cause::DividendHighInfinite | Cause::LdexpLowInfinite | Cause::LdexpHighInfinite => {
+            "declare the inputs that it comes from finite, or bound it with fmin and fmax"
+        }
+        Cause::LroundLow | Cause::LroundHigh => "bound what is rounded to 1e18 with fmin and fmax",
+        Cause::WholeLow | Cause::WholeHigh => {
+            "declare the whole inputs that it comes from narrower, or bound them while they are doubles, before lround"
+        }
+        Cause::LdexpLowOverflows | Cause::LdexpHighOverflows => {
+            "scale by a smaller power, or bound what is scaled with fmin and fmax"
+        }
+        Cause::TooBigLow | Cause::TooBigHigh => {
+            "declare the whole inputs that it comes from narrower, or bound them while they are doubles, before lround"
+        }
+        _ => "see docs/FORMATS.md",
+    }
+}

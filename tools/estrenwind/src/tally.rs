@@ -1,0 +1,162 @@
+//! How many frames were read and how many answers written, counted apart.
+
+use crate::failure::Status;
+use crate::number::grouped;
+use crate::progress::frames;
+use estrenwind::ANSWER_LINE;
+
+/// Bytes of the line of a refusal: ff, its number and its place, and the line feed.
+const REFUSAL_LINE: usize = 7;
+
+/// Counts of a run.
+pub struct Tally {
+    /// Frames that were to be answered.
+    pub frames: u64,
+    answered: u64,
+    /// By the refusal's number.
+    refused: [u64; 256],
+}
+
+impl Tally {
+    pub fn new() -> Tally {
+        Tally {
+            frames: 0,
+            answered: 0,
+            refused: [0; 256],
+        }
+    }
+
+    /// Counts lines of answers as the library writes them: of 19 bytes, or of 7 for a refusal.
+    pub fn count(&mut self, answers: &[u8]) {
+        let mut rest = answers;
+        while let Some(first) = rest.first() {
+            let length = match first {
+                b'f' => REFUSAL_LINE,
+                _ => ANSWER_LINE,
+            };
+            let (line, after) = rest.split_at(length.min(rest.len()));
+            match line {
+                [b'f', b'f', high, low, _, _, b'\n'] => {
+                    self.refused[usize::from(digit(*high) << 4 | digit(*low))] += 1
+                }
+                // Anything else that is no answer is not counted as one, so that the two counts differ at the end.
+                [.., b'\n'] => self.answered += 1,
+                _ => {}
+            }
+            rest = after;
+        }
+    }
+
+    fn refusals(&self) -> u64 {
+        self.refused.iter().sum()
+    }
+
+    pub fn answers(&self) -> u64 {
+        self.answered + self.refusals()
+    }
+
+    pub fn status(&self) -> Status {
+        match self.refusals() {
+            0 => Status::Well,
+            _ => Status::FrameRefused,
+        }
+    }
+
+    /// What is wrong where a frame has no answer, or an answer no frame.
+    pub fn difference(&self) -> Option<String> {
+        let (read, answers) = (self.frames, self.answers());
+        (read != answers).then(|| format!("{}, {} answers", frames(read), grouped(answers)))
+    }
+
+    /// `estrenwind: 1,000,000 frames, 999,990 answered, 10 refused (20: 3, 32: 7)`
+    pub fn line(&self) -> String {
+        let refused = self
+            .refused
+            .iter()
+            .enumerate()
+            .filter(|(_, &count)| count > 0);
+        let refused: Vec<String> = refused
+            .map(|(number, &count)| format!("{number}: {}", grouped(count)))
+            .collect();
+        let list = match refused.is_empty() {
+            true => String::new(),
+            false => format!(" ({})", refused.join(", ")),
+        };
+        let (answered, refusals) = (grouped(self.answered), grouped(self.refusals()));
+        format!(
+            "estrenwind: {}, {answered} answered, {refusals} refused{list}",
+            frames(self.frames)
+        )
+    }
+}
+
+fn digit(byte: u8) -> u8 {
+    match byte {
+        b'0'..=b'9' => byte - b'0',
+        _ => ((byte & 15) + 9) & 15,
+    }
+}
+
+#[cfg(test)]
+mod tests {
+    use super::*;
+
+    fn counted(frames: u64, answers: &[u8]) -> Tally {
+        let mut tally = Tally::new();
+        tally.frames = frames;
+        tally.count(answers);
+        tally
+    }
+
+    #[test]
+    fn answers_and_refusals() {
+        let tally = counted(4, b"02ffffffffffffffff\nff2000\nff1402\nff207f\n");
+        assert_eq!(
+            tally.line(),
+            "estrenwind: 4 frames, 1 answered, 3 refused (20: 1, 32: 2)"
+        );
+        assert_eq!(
+            (tally.difference(), tally.status()),
+            (None, Status::FrameRefused)
+        );
+        let tally = counted(1, b"013ff0000000000000\n");
+        assert_eq!(tally.line(), "estrenwind: 1 frame, 1 answered, 0 refused");
+        assert_eq!((tally.difference(), tally.status()), (None, Status::Well));
+        assert_eq!(
+            counted(0, b"").line(),
+            "estrenwind: 0 frames, 0 answered, 0 refused"
+        );
+    }
+
+    #[test]
+    fn a_difference_is_seen() {
+        assert_eq!(
+            counted(2, b"ff2000\n").difference().unwrap(),
+            "2 frames, 1 answers"
+        );
+        assert_eq!(
+            counted(0, b"ff2000\n").difference().unwrap(),
+            "0 frames, 1 answers"
+        );
+        assert_eq!(
+            counted(1, b"02fffff").difference().unwrap(),
+            "1 frame, 0 answers"
+        );
+        assert_eq!(
+            counted(1, b"ff20").difference().unwrap(),
+            "1 frame, 0 answers"
+        );
+    }
+
+    #[test]
+    fn every_number() {
+        for number in 0..=255 {
+            let tally = counted(1, format!("ff{number:02x}00\n").as_bytes());
+            assert!(
+                tally.line().ends_with(&format!("1 refused ({number}: 1)")),
+                "{}",
+                tally.line()
+            );
+        }
+    }
+}
