@@ -83,7 +83,8 @@ pub const JOIN: &str = "\
 usage: estrenwind join [-o OUT] PART..
 
 Puts the outputs of shards 1/N to N/N, named in this order, together: the
-output of one run, byte for byte. Parts that do not fit together are told.
+output of one run, byte for byte. Parts whose lengths do not fit are told; two
+of equal length in each other's place cannot be seen.
 
 Exit status: 0 it is whole, 74 it is not.
 ";
