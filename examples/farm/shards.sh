@@ -20,4 +20,4 @@ trap 'exit 143' TERM HUP
 
 # The first shard that fails stops the others, and its status is the one of parallel. -q hands the names on as they are.
 seq "$1" | parallel -q --halt now,fail=1 sh "$here/shard.sh" {} "$1" "$2" "$3" "$parts" || exit
-sh "$here/join.sh" "$1" "$parts" "$4"
+"${ESTRENWIND:-estrenwind}" join -o "$4" -- "$parts"/*

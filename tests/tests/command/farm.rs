@@ -100,7 +100,14 @@ fn shards_by_themselves() {
             &[index, "2", "recipe", "frames", "parts"],
         )
     };
-    let join = || ended(&folder, "join.sh", &["2", "parts", "all"]);
+    let join = || {
+        let mut command = Command::new("sh");
+        command
+            .args(["-c", "\"$0\" join -o all parts/*"])
+            .arg(estrenwind())
+            .current_dir(folder.path());
+        Child::start_on(&mut command, File::open("/dev/null").unwrap()).ending()
+    };
     assert_eq!(shard("2").status.code(), Some(0));
     assert_eq!(join().status.code(), Some(74));
     assert_eq!(folder.names(), ["frames", "parts", "recipe"]);
@@ -113,7 +120,7 @@ fn shards_by_themselves() {
             counted_answers(9_000).as_bytes(),
         );
     }
-    // No frame is refused now: the note of the run before is gone.
+    // No frame is refused now.
     folder.with("frames", counted(6));
     for index in ["1", "2"] {
         assert_eq!(shard(index).status.code(), Some(0));

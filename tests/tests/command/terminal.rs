@@ -267,6 +267,21 @@ fn control_c() {
     );
 }
 
+/// Slips are coloured on a terminal, and not where that is not wanted or the terminal has none. The script itself is
+/// no recipe.
+#[test]
+fn colour() {
+    for (environment, coloured) in [("", true), ("NO_COLOR=1", false), ("TERM=dumb", false)] {
+        let Some(terminal) = Terminal::start(100, environment, "\"$0\" check script") else {
+            return;
+        };
+        terminal.wait_for_text("ended with 3");
+        let raw = terminal.raw();
+        assert!(raw.contains("script:1:"), "{raw:?}");
+        assert_eq!(raw.contains('\x1b'), coloured, "{environment}: {raw:?}");
+    }
+}
+
 /// Where standard error is no terminal, a line every five seconds, and no bar.
 #[test]
 fn no_terminal() {

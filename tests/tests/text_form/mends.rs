@@ -1,6 +1,6 @@
 //! What `explain` says would mend a recipe does: each change that it names is made to the text by hand, and the step is taken then.
 
-use crate::{estrenwind, output_of};
+use crate::{built, estrenwind, output_of, run_program};
 use estrenwind_tests::patterns::Random;
 use estrenwind_tests::recipes::reasons::{FACTS, PLACES};
 use std::collections::BTreeMap;
@@ -122,6 +122,22 @@ fn mended(lines: &[String], step: &str, change: &str, is_divisor: bool) -> Vec<S
     lines
 }
 
+/// The step, the operand and the refusal's number are those that the programs `explain` and `sheet` write.
+fn is_the_program_s(recipe: &str, shown: &str, k: usize) {
+    let explanation = run_program(&built("explain"), &[], recipe.as_bytes()).output;
+    let refusal = run_program(&built("sheet"), &[], recipe.as_bytes()).output;
+    let field =
+        |text: &str, place: usize| u64::from_str_radix(&text[place..place + 2], 16).unwrap();
+    assert_eq!(field(&explanation, 0), k as u64);
+    assert_eq!(field(&refusal, 4), k as u64);
+    let heading = format!("refused {} at step {k}, s{k}\n", field(&refusal, 2));
+    assert!(shown.contains(&heading), "{heading} is not in {shown}");
+    let sentence = shown.split("\n\n").last().unwrap();
+    let operand = format!("s{}", field(&explanation, 2));
+    let named = sentence.split([' ', ',', '\n']).any(|word| word == operand);
+    assert!(named, "{operand} is not in {sentence}");
+}
+
 #[test]
 fn every_mend_helps() {
     let mut random = Random::new(74);
@@ -133,6 +149,7 @@ fn every_mend_helps() {
                 let recipe = String::from_utf8(draft.explain_call().text).unwrap();
                 let ran = estrenwind(&["explain", "-"], &recipe);
                 assert_eq!(ran.status, 3);
+                is_the_program_s(&recipe, &ran.output, k);
                 let sentence = ran.output.split("\n\n").last().unwrap().replace('\n', " ");
                 let (_, changes) = sentence.trim().rsplit_once(": ").unwrap();
                 let changes: Vec<&str> = changes.split(", or ").collect();

@@ -82,11 +82,12 @@ input or output failed and answers are missing.
 pub const JOIN: &str = "\
 usage: estrenwind join [-o OUT] PART..
 
-Puts the outputs of shards 1/N to N/N, named in this order, together: the
-output of one run, byte for byte. Parts whose lengths do not fit are told; two
-of equal length in each other's place cannot be seen.
+Puts the parts of a run in shards together, in whatever order they are named:
+the output of one run, byte for byte, with its last line and its status.
+A part that is missing, given twice, cut off or of another run is told.
 
-Exit status: 0 it is whole, 74 it is not.
+Exit status: 0 all frames were answered, 1 some were refused, 74 the parts are
+not all parts of one run, or input or output failed.
 ";
 
 pub const ASM: &str = "\

@@ -18,6 +18,7 @@ mod json;
 mod mend;
 mod number;
 mod output;
+mod part;
 mod progress;
 mod recipe;
 mod recipe_file;

@@ -4,6 +4,7 @@ use crate::decimal::{self, FrameWriter};
 use crate::failure::{Failure, Status};
 use crate::frames::{count_lines, length_of_lines, Frames};
 use crate::output::Output;
+use crate::part::{Ending, Heading};
 use crate::progress::{say, Progress, Reached};
 use crate::recipe::Recipe;
 use crate::shard::Blocks;
@@ -61,6 +62,10 @@ pub fn run(recipe: &Recipe, options: &RunOptions) -> Result<Status, Failure> {
     }
     let mut frames = options.open_frames()?;
     let mut run = Run::new(recipe, options)?;
+    if let Some(shard) = options.shard {
+        let heading = Heading::new(shard, &recipe.text, options.decimal);
+        run.output.write(heading.line().as_bytes())?;
+    }
     let mut progress = Progress::start(options.quiet);
     let mut blocks = Blocks::new(options.shard);
     loop {
@@ -80,6 +85,14 @@ pub fn run(recipe: &Recipe, options: &RunOptions) -> Result<Status, Failure> {
         });
     }
     drop(progress);
+    if let Some(shard) = options.shard {
+        let ending = Ending {
+            shard,
+            frames: blocks.lines(),
+            tally: run.tally.clone(),
+        };
+        run.output.write(ending.line().as_bytes())?;
+    }
     run.finish()
 }
 

@@ -1,6 +1,7 @@
 //! A run in shards: frames are cut into blocks, which the shards take by turns.
 
 use crate::frames::{count_lines, length_of_lines};
+use std::fmt;
 
 /// Lines of a block. `join` puts answers together by the same number, so answers of versions that differ in it do not go together.
 pub const BLOCK: u64 = 4_096;
@@ -33,6 +34,12 @@ impl Shard {
     }
 }
 
+impl fmt::Display for Shard {
+    fn fmt(&self, f: &mut fmt::Formatter) -> fmt::Result {
+        write!(f, "{}/{}", self.index, self.count)
+    }
+}
+
 /// Tells the frames of a shard from the others, as they come.
 pub struct Blocks {
     shard: Option<Shard>,
@@ -44,6 +51,11 @@ impl Blocks {
     /// All frames are its own where there is no shard.
     pub fn new(shard: Option<Shard>) -> Blocks {
         Blocks { shard, lines: 0 }
+    }
+
+    /// How many lines there were, those of other shards too; of a run without shards it does not count them.
+    pub fn lines(&self) -> u64 {
+        self.lines
     }
 
     /// Takes lines off the front, as many as lie in one block; those of the shard's own, and none of another's.

@@ -59,19 +59,6 @@ impl Source {
     pub fn cannot_read(&self, error: io::Error) -> String {
         format!("cannot read {}: {}", self.name, words(&error))
     }
-
-    /// Whether it is the same file as another source, with something in it.
-    pub fn is_same(&self, other: &Source) -> bool {
-        use std::os::unix::fs::MetadataExt;
-        let identity = |source: &Source| {
-            source
-                .file
-                .metadata()
-                .ok()
-                .map(|data| (data.dev(), data.ino()))
-        };
-        self.size.is_some_and(|size| size > 0) && identity(self) == identity(other)
-    }
 }
 
 /// Rust's own handle of it would hold what is read a second time.

@@ -9,10 +9,11 @@ use estrenwind::ANSWER_LINE;
 const REFUSAL_LINE: usize = 7;
 
 /// Counts of a run.
+#[derive(Clone, Debug, PartialEq, Eq)]
 pub struct Tally {
     /// Frames that were to be answered.
     pub frames: u64,
-    answered: u64,
+    pub answered: u64,
     /// By the refusal's number.
     refused: [u64; 256],
 }
@@ -47,6 +48,32 @@ impl Tally {
         }
     }
 
+    /// Counts refusals of a number; none where there is no such number, or there would be more than can be counted.
+    pub fn refuse(&mut self, number: usize, count: u64) -> Option<()> {
+        self.answers().checked_add(count)?;
+        *self.refused.get_mut(number)? += count;
+        Some(())
+    }
+
+    /// The numbers of refusals that came up, and how often, in order.
+    pub fn refused(&self) -> impl Iterator<Item = (usize, u64)> + '_ {
+        self.refused
+            .iter()
+            .copied()
+            .enumerate()
+            .filter(|&(_, count)| count > 0)
+    }
+
+    /// Adds the counts of a part; none where there would be more than can be counted.
+    pub fn add(&mut self, other: &Tally) -> Option<()> {
+        self.frames = self.frames.checked_add(other.frames)?;
+        self.answers().checked_add(other.answers())?;
+        self.answered += other.answered;
+        other
+            .refused()
+            .try_for_each(|(number, count)| self.refuse(number, count))
+    }
+
     fn refusals(&self) -> u64 {
         self.refused.iter().sum()
     }
@@ -70,13 +97,9 @@ impl Tally {
 
     /// `estrenwind: 1,000,000 frames, 999,990 answered, 10 refused (20: 3, 32: 7)`
     pub fn line(&self) -> String {
-        let refused = self
-            .refused
-            .iter()
-            .enumerate()
-            .filter(|(_, &count)| count > 0);
-        let refused: Vec<String> = refused
-            .map(|(number, &count)| format!("{number}: {}", grouped(count)))
+        let refused: Vec<String> = self
+            .refused()
+            .map(|(number, count)| format!("{number}: {}", grouped(count)))
             .collect();
         let list = match refused.is_empty() {
             true => String::new(),
@@ -146,6 +169,22 @@ mod tests {
             counted(1, b"ff20").difference().unwrap(),
             "1 frame, 0 answers"
         );
+    }
+
+    #[test]
+    fn parts_are_added() {
+        let mut all = counted(1, b"ff2000\n");
+        all.add(&counted(3, b"ff2000\nff1402\n013ff0000000000000\n"))
+            .unwrap();
+        assert_eq!(
+            all.line(),
+            "estrenwind: 4 frames, 1 answered, 3 refused (20: 1, 32: 2)"
+        );
+        let mut most = Tally::new();
+        most.answered = u64::MAX;
+        assert_eq!(most.clone().add(&all), None);
+        assert_eq!(most.refuse(32, 1), None);
+        assert_eq!(Tally::new().refuse(256, 1), None);
     }
 
     #[test]
