@@ -5,6 +5,45 @@ use crate::recipe::Value;
 /// Bytes of a recipe per step, its line feed counted.
 pub const RECIPE_LINE: usize = 39;
 
+/// A field of a recipe's line: its name, the digits before it and its own.
+#[derive(Clone, Copy, Debug, PartialEq, Eq, Hash)]
+#[allow(missing_docs)]
+pub struct Field {
+    pub name: &'static str,
+    pub start: usize,
+    pub digits: usize,
+}
+
+impl Field {
+    /// The number that stands there in a line.
+    pub fn read(&self, line: &[u8]) -> Option<u64> {
+        read_digits(line.get(self.start..self.start + self.digits)?)
+    }
+}
+
+const fn field(name: &'static str, start: usize, digits: usize) -> Field {
+    Field {
+        name,
+        start,
+        digits,
+    }
+}
+
+/// The fields of a recipe's line, in their order.
+pub const STEP_FIELDS: [Field; 5] = [
+    field("opcode", 0, 2),
+    field("A", 2, 2),
+    field("B", 4, 2),
+    field("P", 6, 16),
+    field("Q", 22, 16),
+];
+
+/// What a refusal line begins with, where an answer has its kind.
+pub const REFUSAL_MARK: &[u8] = b"ff";
+
+/// Bytes of a refusal line, its line feed counted.
+pub const REFUSAL_LINE: usize = 7;
+
 /// Inputs that a recipe may have.
 pub const MOST_INPUTS: usize = 16;
 
@@ -171,6 +210,13 @@ impl Operation {
         self.row().gives
     }
 
+    /// Which of the [`STEP_FIELDS`] it uses; the others are 0.
+    pub fn uses(self) -> [bool; 5] {
+        let operands = self.operands().len();
+        let declares = self.is_input() || self.is_constant();
+        [true, operands > 0, operands > 1, declares, self.is_input()]
+    }
+
     /// Whether its value comes from the frame.
     pub fn is_input(self) -> bool {
         matches!(self, Operation::Input | Operation::WholeInput)
@@ -230,24 +276,28 @@ pub struct Step {
 impl Step {
     /// The step of a line without its line feed. Its fields may be any: whether the step may stand in a recipe, only the library says.
     pub fn read(line: &[u8]) -> Option<Step> {
-        let mut fields = Fields(line);
+        let [opcode, a, b, p, q] = STEP_FIELDS.map(|field| field.read(line));
         let step = Step {
-            operation: Operation::from_opcode(fields.next(2)? as u8)?,
-            a: fields.next(2)? as usize,
-            b: fields.next(2)? as usize,
-            p: fields.next(16)?,
-            q: fields.next(16)?,
+            operation: Operation::from_opcode(opcode? as u8)?,
+            a: a? as usize,
+            b: b? as usize,
+            p: p?,
+            q: q?,
         };
-        fields.0.is_empty().then_some(step)
+        (line.len() + 1 == RECIPE_LINE).then_some(step)
+    }
+
+    /// What stands in the fields of its line.
+    pub fn values(&self) -> [u64; 5] {
+        let opcode = self.operation.opcode().into();
+        [opcode, self.a as u64, self.b as u64, self.p, self.q]
     }
 
     /// Its line, with the line feed. A and B are below 256.
     pub fn line(&self) -> String {
-        let opcode = self.operation.opcode();
-        format!(
-            "{opcode:02x}{:02x}{:02x}{:016x}{:016x}\n",
-            self.a, self.b, self.p, self.q
-        )
+        let fields = STEP_FIELDS.iter().zip(self.values());
+        let digits = fields.map(|(field, value)| format!("{value:00$x}", field.digits));
+        digits.chain(["\n".to_owned()]).collect()
     }
 
     /// The steps that it works on: none, A, or A and B.
@@ -300,16 +350,15 @@ impl Range {
 /// assert_eq!((refused.fault, refused.place), (Fault::Input, 0));
 /// ```
 pub fn read_answer(line: &[u8]) -> Option<Result<Value, crate::TurnedDown>> {
+    if let Some(rest) = line.strip_prefix(REFUSAL_MARK) {
+        let mut fields = Fields(rest);
+        let refused = crate::TurnedDown::of(fields.next(2)?, fields.next(2)?);
+        return fields.0.is_empty().then_some(Err(refused));
+    }
     let mut fields = Fields(line);
-    let answer = match fields.next(2)? {
-        REFUSED => Err(crate::TurnedDown::of(fields.next(2)?, fields.next(2)?)),
-        kind => Ok(Kind::from_number(kind)?.value(fields.next(16)?)),
-    };
-    fields.0.is_empty().then_some(answer)
+    let answer = Kind::from_number(fields.next(2)?)?.value(fields.next(16)?);
+    fields.0.is_empty().then_some(Ok(answer))
 }
-
-/// What a refusal line begins with, where an answer has its kind.
-const REFUSED: u64 = 0xff;
 
 /// The refusal's line, as the programs write it, without its line feed.
 pub fn refusal_line(refused: crate::TurnedDown) -> String {
@@ -325,6 +374,26 @@ mod tests {
         for operation in Operation::all() {
             assert_eq!(operation.row().operation, operation);
             assert_eq!(Operation::from_opcode(operation.opcode()), Some(operation));
+        }
+    }
+
+    #[test]
+    fn fields_are_the_line() {
+        let mut end = 0;
+        for field in STEP_FIELDS {
+            assert_eq!(field.start, end);
+            end += field.digits;
+        }
+        assert_eq!(end + 1, RECIPE_LINE);
+    }
+
+    #[test]
+    fn refusal_lines_come_back() {
+        for (number, place) in [(10, 0), (32, 127), (255, 255)] {
+            let refused = crate::TurnedDown::of(number, place);
+            let line = refusal_line(refused);
+            assert_eq!(line.len() + 1, REFUSAL_LINE);
+            assert_eq!(read_answer(line.as_bytes()), Some(Err(refused)));
         }
     }
 

@@ -118,10 +118,8 @@ fn operations_are_the_library_s() {
             );
         }
         // P and Q are used by inputs, P by constants, neither by others; a low end above the high one is refused of inputs alone.
-        let used = [
-            operation.is_input() || operation.is_constant(),
-            operation.is_input(),
-        ];
+        let [_, _, _, p_used, q_used] = operation.uses();
+        let used = [p_used, q_used];
         let one = 1f64.to_bits();
         for (p, q, used) in [(one, one, used[0] && used[1]), (one, 0, used[0])] {
             let answer = with_step(opcode, at(0), at(1), p, q);

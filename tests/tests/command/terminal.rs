@@ -111,9 +111,12 @@ impl Terminal {
             .unwrap()
     }
 
-    /// All that was written to the terminal, once it stands on the screen.
+    /// All that was written to the terminal, up to the end of the script. It comes by a pipe of its own, and may be behind the screen.
+    #[track_caller]
     fn raw(&self) -> String {
-        String::from_utf8_lossy(&self.folder.read("raw")).into_owned()
+        let raw = || String::from_utf8_lossy(&self.folder.read("raw")).into_owned();
+        self.wait_for("end of the script", |_| raw().contains("ended with "));
+        raw()
     }
 
     /// The files of the command.

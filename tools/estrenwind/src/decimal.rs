@@ -54,7 +54,9 @@ impl FrameWriter {
         // With one more than any recipe has there are too many, however many follow.
         for (place, text) in fields(line).take(MOST_INPUTS + 1).enumerate() {
             match self.kinds.get(place).map(|&kind| read(text, kind)) {
-                Some(Some(word)) => frame.extend_from_slice(format!("{word:016x}").as_bytes()),
+                Some(Some(word)) => {
+                    frame.extend_from_slice(format!("{word:0FRAME_INPUT$x}").as_bytes())
+                }
                 _ => frame.extend_from_slice(&[NO_DIGIT; FRAME_INPUT]),
             }
         }

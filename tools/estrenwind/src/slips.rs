@@ -2,7 +2,9 @@
 
 use crate::diagnostic::Diagnostic;
 use crate::number::grouped;
-use estrenwind::{Fault, Kind, Operation, Step, TurnedDown, FRAME_INPUT, MOST_STEPS, RECIPE_LINE};
+use estrenwind::{
+    Fault, Field, Kind, Step, TurnedDown, FRAME_INPUT, MOST_STEPS, RECIPE_LINE, STEP_FIELDS,
+};
 
 /// Digits of a line.
 const DIGITS: usize = RECIPE_LINE - 1;
@@ -132,14 +134,17 @@ fn in_line(k: usize, line: &[u8], rest: &[&[u8]]) -> Option<Diagnostic> {
         ));
     }
     let count = line.len();
-    let help = match (count, count < DIGITS) {
-        (37, _) => "one is missing: opcode 2, A 2, B 2, P 16, Q 16",
-        (39, _) => "one is too many: opcode 2, A 2, B 2, P 16, Q 16",
-        (_, true) => "some are missing: opcode 2, A 2, B 2, P 16, Q 16",
-        (_, false) => {
-            "some are too many, or a line feed is missing: opcode 2, A 2, B 2, P 16, Q 16"
-        }
+    let wrong = if count + 1 == DIGITS {
+        "one is missing"
+    } else if count == DIGITS + 1 {
+        "one is too many"
+    } else if count < DIGITS {
+        "some are missing"
+    } else {
+        "some are too many, or a line feed is missing"
     };
+    let fields = STEP_FIELDS.map(|field| format!("{} {}", field.name, field.digits));
+    let help = format!("{wrong}: {}", fields.join(", "));
     let place = if count < DIGITS {
         count + 1
     } else {
@@ -216,11 +221,11 @@ fn strange_byte(k: usize, line: &[u8], place: usize) -> Diagnostic {
         ),
         b' '..=b'~' => (
             format!("{} is no hexadecimal digit", byte as char),
-            "a line is 38 digits 0 to 9 and a to f",
+            "the digits are 0 to 9 and a to f",
         ),
         _ => (
             format!("the byte {byte:02x} is no hexadecimal digit"),
-            "a line is 38 digits 0 to 9 and a to f",
+            "the digits are 0 to 9 and a to f",
         ),
     };
     slip(k + 1, column, 1, message, help)
@@ -228,23 +233,33 @@ fn strange_byte(k: usize, line: &[u8], place: usize) -> Diagnostic {
 
 // ---- a step: refusals 12 to 17
 
-/// The columns of the fields, from 1, and how many digits each has.
-const OPCODE: (usize, usize) = (1, 2);
-const FIELDS: [(&str, usize, usize); 4] = [("A", 3, 2), ("B", 5, 2), ("P", 7, 16), ("Q", 23, 16)];
+/// The places of the opcode, A and P among the fields; B stands after A, and Q after P.
+const OPCODE: usize = 0;
+const A: usize = 1;
+const P: usize = 3;
 
 fn in_step(text: &[u8], refused: TurnedDown) -> Option<Diagnostic> {
     let line = |k: usize| text.split(|&byte| byte == b'\n').nth(k);
     let k = refused.place;
-    let at = |(column, length): (usize, usize), message: String, help: String| {
-        Some(slip(k + 1, column, length, message, help))
+    // A slip in one of the fields, or in some that stand side by side.
+    let at = |fields: &[Field], message: String, help: &str| {
+        let digits = fields.iter().map(|field| field.digits).sum();
+        Some(slip(
+            k + 1,
+            fields.first()?.start + 1,
+            digits,
+            message,
+            help,
+        ))
     };
+    let field = |i: usize| &STEP_FIELDS[i..=i];
     let digits = line(k)?;
     if refused.fault == Fault::Opcode {
-        let opcode = String::from_utf8_lossy(digits.get(..2)?);
+        let opcode = STEP_FIELDS[OPCODE].read(digits)?;
         return at(
-            OPCODE,
-            format!("there is no opcode {opcode}"),
-            "see the table of steps in docs/FORMATS.md; opcodes are hexadecimal".to_owned(),
+            field(OPCODE),
+            format!("there is no opcode {opcode:02x}"),
+            "see the table of steps in docs/FORMATS.md; opcodes are hexadecimal",
         );
     }
     let step = Step::read(digits)?;
@@ -252,34 +267,28 @@ fn in_step(text: &[u8], refused: TurnedDown) -> Option<Diagnostic> {
     let operands: Vec<usize> = step.operands().collect();
     match refused.fault {
         Fault::Unused => {
-            let values = [step.a as u64, step.b as u64, step.p, step.q];
-            let used = used_fields(step.operation);
-            let (field, column, length) = (0..4)
-                .find(|&i| values[i] != 0 && !used[i])
-                .map(|i| FIELDS[i])?;
+            let (values, used) = (step.values(), step.operation.uses());
+            let i = (0..values.len()).find(|&i| values[i] != 0 && !used[i])?;
+            let unused = STEP_FIELDS[i].name;
             at(
-                (column, length),
-                format!("{name} does not use {field}, which is not zero"),
-                format!("write zeros for {field}"),
+                field(i),
+                format!("{name} does not use {unused}, which is not zero"),
+                &format!("write zeros for {unused}"),
             )
         }
         Fault::Ahead => {
             let i = operands.iter().position(|&operand| operand >= k)?;
-            let (field, column, length) = FIELDS[i];
+            let (place, operand) = (STEP_FIELDS[A + i].name, operands[i]);
             at(
-                (column, length),
-                format!(
-                    "{field} is step {}, which does not stand before step {k}",
-                    operands[i]
-                ),
-                "steps count from 0, in hexadecimal; move the line that it means up".to_owned(),
+                field(A + i),
+                format!("{place} is step {operand}, which does not stand before step {k}"),
+                "steps count from 0, in hexadecimal; move the line that it means up",
             )
         }
         Fault::Kind => {
             let kind_of = |operand: usize| Some(Step::read(line(operand)?)?.operation.gives());
             let needed = step.operation.operands();
             let i = (0..operands.len()).find(|&i| kind_of(operands[i]) != Some(needed[i]))?;
-            let (field, column, length) = FIELDS[i];
             let (is, need, help) = match needed[i] {
                 Kind::Whole => (
                     "a double",
@@ -292,51 +301,36 @@ fn in_step(text: &[u8], refused: TurnedDown) -> Option<Diagnostic> {
                     "put to_double (32) between, or use a double constant (03)",
                 ),
             };
+            let (place, operand) = (STEP_FIELDS[A + i].name, operands[i]);
             at(
-                (column, length),
-                format!(
-                    "{field} is step {}, {is}, and {name} needs {need} there",
-                    operands[i]
-                ),
-                help.to_owned(),
+                field(A + i),
+                format!("{place} is step {operand}, {is}, and {name} needs {need} there"),
+                help,
             )
         }
         Fault::Declared => {
-            let is_nan =
-                |word: u64| step.operation.gives() == Kind::Double && f64::from_bits(word).is_nan();
-            let nan = [(2, step.p), (3, step.q)]
-                .into_iter()
-                .find(|&(_, word)| is_nan(word));
-            match nan {
-                Some((i, _)) => {
-                    let (field, column, length) = FIELDS[i];
-                    at((column, length), format!("{field} is a NaN"), "write a number".to_owned())
-                }
+            let is_double = step.operation.gives() == Kind::Double;
+            let is_nan = |&i: &usize| is_double && f64::from_bits(step.values()[i]).is_nan();
+            match [P, P + 1].into_iter().find(is_nan) {
+                Some(i) => at(
+                    field(i),
+                    format!("{} is a NaN", STEP_FIELDS[i].name),
+                    "write a number",
+                ),
                 None => at(
-                    (FIELDS[2].1, 32),
+                    &STEP_FIELDS[P..],
                     "the low end P is above the high end Q".to_owned(),
-                    "exchange P and Q; of negative doubles the larger pattern is the smaller number".to_owned(),
+                    "exchange P and Q; of negative doubles the larger pattern is the smaller number",
                 ),
             }
         }
         Fault::Inputs => at(
-            OPCODE,
+            field(OPCODE),
             refused.fault.to_string(),
-            "make inputs that never change constants, or split the recipe".to_owned(),
+            "make inputs that never change constants, or split the recipe",
         ),
         _ => None,
     }
-}
-
-/// Whether an operation uses A, B, P and Q.
-fn used_fields(operation: Operation) -> [bool; 4] {
-    let operands = operation.operands().len();
-    [
-        operands > 0,
-        operands > 1,
-        operation.is_input() || operation.is_constant(),
-        operation.is_input(),
-    ]
 }
 
 #[cfg(test)]

@@ -3,10 +3,7 @@
 use crate::failure::Status;
 use crate::number::grouped;
 use crate::progress::frames;
-use estrenwind::ANSWER_LINE;
-
-/// Bytes of the line of a refusal: ff, its number and its place, and the line feed.
-const REFUSAL_LINE: usize = 7;
+use estrenwind::{read_answer, ANSWER_LINE, REFUSAL_LINE, REFUSAL_MARK};
 
 /// Counts of a run.
 #[derive(Clone, Debug, PartialEq, Eq)]
@@ -27,24 +24,27 @@ impl Tally {
         }
     }
 
-    /// Counts lines of answers as the library writes them: of 19 bytes, or of 7 for a refusal.
+    /// Counts lines of answers as the library writes them. What is neither an answer nor a refusal is not counted, so that the two counts differ at
+    /// the end.
     pub fn count(&mut self, answers: &[u8]) {
         let mut rest = answers;
-        while let Some(first) = rest.first() {
-            let length = match first {
-                b'f' => REFUSAL_LINE,
-                _ => ANSWER_LINE,
+        while !rest.is_empty() {
+            let is_refusal = rest.starts_with(REFUSAL_MARK);
+            let length = if is_refusal {
+                REFUSAL_LINE
+            } else {
+                ANSWER_LINE
             };
             let (line, after) = rest.split_at(length.min(rest.len()));
-            match line {
-                [b'f', b'f', high, low, _, _, b'\n'] => {
-                    self.refused[usize::from(digit(*high) << 4 | digit(*low))] += 1
-                }
-                // Anything else that is no answer is not counted as one, so that the two counts differ at the end.
-                [.., b'\n'] => self.answered += 1,
-                _ => {}
-            }
             rest = after;
+            let Some(line) = line.strip_suffix(b"\n") else {
+                continue;
+            };
+            if !is_refusal {
+                self.answered += 1;
+            } else if let Some(Err(refused)) = read_answer(line) {
+                self.refused[refused.fault.number() as usize % 256] += 1;
+            }
         }
     }
 
@@ -110,13 +110,6 @@ impl Tally {
             "estrenwind: {}, {answered} answered, {refusals} refused{list}",
             frames(self.frames)
         )
-    }
-}
-
-fn digit(byte: u8) -> u8 {
-    match byte {
-        b'0'..=b'9' => byte - b'0',
-        _ => ((byte & 15) + 9) & 15,
     }
 }
 
