@@ -131,7 +131,7 @@ test-bindings: build  ## the Rust crate in bindings/rust: its tests and the exam
 test-command: build  ## the command estrenwind: its own tests, and those of the built command beside the programs
 	@$(call need,cargo,build the tests)
 	cargo test $(CARGO_COMMAND)
-	cargo test $(CARGO_TESTS) --test command
+	cargo test $(CARGO_TESTS) --test text_form --test command --test command_speed
 
 test-install: build  ## install into build/installed, and build and run a C program and the Rust crate against that
 	CC=$(call quoted,$(CC)) sh tests/c/installed.sh $(call quoted,$(CURDIR)/build/installed)

@@ -106,9 +106,9 @@ impl fmt::Display for LinesCall {
 /// A recipe, and the frame that it came with.
 pub struct Recipe {
     pub text: Vec<u8>,
-    frame: Vec<u8>,
+    pub frame: Vec<u8>,
     /// Empty where the text is refused.
-    steps: Vec<Step>,
+    pub steps: Vec<Step>,
 }
 
 impl Random {
@@ -117,6 +117,27 @@ impl Random {
         let (RunCall { text, frame, .. }, _) = damaged(self, faults);
         let steps = text::steps(Way::Short, &text).unwrap_or_default();
         Recipe { text, frame, steps }
+    }
+
+    /// A word for each input of a recipe, in its declared range.
+    pub fn input_words(&mut self, steps: &[Step]) -> Vec<u64> {
+        let inputs = steps.iter().filter(|step| step.operation.is_input());
+        inputs
+            .map(|step| self.inside(step.operation.kind, [step.p, step.q]))
+            .collect()
+    }
+
+    /// Puts one of these words outside its range, where there is an input and it has an outside.
+    pub fn put_one_outside(&mut self, steps: &[Step], words: &mut [u64]) {
+        if words.is_empty() {
+            return;
+        }
+        let input = self.below(words.len() as u64) as usize;
+        let mut inputs = steps.iter().filter(|step| step.operation.is_input());
+        let step = inputs.nth(input).expect("there is a word for each input");
+        if let Some(word) = self.outside(step.operation.kind, [step.p, step.q]) {
+            words[input] = word;
+        }
     }
 
     /// So many lines for a recipe, a few more where noise has line feeds in it. One time in four the
@@ -136,17 +157,10 @@ impl Random {
     /// A frame in the declared ranges in half of the cases, and otherwise the recipe's own, or one
     /// that something is wrong with.
     fn frame_line(&mut self, recipe: &Recipe) -> Vec<u8> {
-        let inputs = recipe.steps.iter();
-        let inputs: Vec<&Step> = inputs.filter(|step| step.operation.is_input()).collect();
-        let mut words: Vec<u64> = (inputs.iter())
-            .map(|step| self.inside(step.operation.kind, [step.p, step.q]))
-            .collect();
+        let mut words = self.input_words(&recipe.steps);
         let sort = self.below(26);
-        if let (0 | 1, false) = (sort, inputs.is_empty()) {
-            let input = self.below(inputs.len() as u64) as usize;
-            let step = inputs[input];
-            let outside = self.outside(step.operation.kind, [step.p, step.q]);
-            words[input] = outside.unwrap_or(words[input]);
+        if let 0 | 1 = sort {
+            self.put_one_outside(&recipe.steps, &mut words);
         }
         let mut line = frame(&words);
         match sort {

@@ -7,9 +7,9 @@ use crate::soon::soon;
 use crate::{assert_same, built, command, counted, counted_answers, run_file, run_input, IDENTITY};
 use estrenwind_tests::patterns::Random;
 use estrenwind_tests::programs::run_output;
-use estrenwind_tests::recipes::faults::damaged;
-use estrenwind_tests::recipes::{frame, RunCall};
-use estrenwind_tests::reference::recipe::{text, Kind, Step, Way};
+use estrenwind_tests::recipes::frame;
+use estrenwind_tests::recipes::lines::Recipe;
+use estrenwind_tests::reference::recipe::{Kind, Step, Way};
 use std::collections::BTreeMap;
 use std::fs;
 use std::path::Path;
@@ -238,50 +238,22 @@ fn answers_do_not_wait() {
     );
 }
 
-/// A recipe that is read, and a frame that one of its steps may refuse.
-pub fn recipe(random: &mut Random) -> (Vec<u8>, Vec<u8>) {
+/// A recipe that is read. Of one in three, some step refuses the frame that it comes with.
+pub fn recipe(random: &mut Random) -> Recipe {
     let fault = match random.below(3) {
         0 => vec![20 + random.below(3)],
         _ => vec![],
     };
-    let (call, _) = damaged::<RunCall>(random, &fault);
-    (call.text, call.frame)
+    random.recipe(&fault)
 }
 
 /// Words for the inputs of a recipe, one of them now and then outside its range.
 pub fn words(random: &mut Random, steps: &[Step]) -> Vec<u64> {
-    let inputs: Vec<&Step> = steps
-        .iter()
-        .filter(|step| step.operation.is_input())
-        .collect();
-    let mut words: Vec<u64> = inputs
-        .iter()
-        .map(|step| random.inside(step.operation.kind, [step.p, step.q]))
-        .collect();
-    if random.below(12) == 0 && !inputs.is_empty() {
-        let input = random.below(inputs.len() as u64) as usize;
-        let step = inputs[input];
-        if let Some(word) = random.outside(step.operation.kind, [step.p, step.q]) {
-            words[input] = word;
-        }
+    let mut words = random.input_words(steps);
+    if random.below(12) == 0 {
+        random.put_one_outside(steps, &mut words);
     }
     words
-}
-
-/// A frame line, now and then damaged.
-fn a_line(random: &mut Random, steps: &[Step]) -> Vec<u8> {
-    let mut line = frame(&words(random, steps));
-    match random.below(12) {
-        1 if !line.is_empty() => {
-            let place = random.below(line.len() as u64) as usize;
-            line[place] = b"gA\r \0\xff/:"[random.below(8) as usize];
-        }
-        2 => line.push(b'0'),
-        3 => drop(line.pop()),
-        4 => line.resize([0, 255, 256, 257, 258, 600][random.below(6) as usize], b'0'),
-        _ => {}
-    }
-    line
 }
 
 #[test]
@@ -289,20 +261,10 @@ fn generated() {
     let mut random = Random::new(71);
     let mut counts: BTreeMap<u8, usize> = BTreeMap::new();
     for _ in 0..300 {
-        let (recipe, frame) = recipe(&mut random);
-        let steps = text::steps(Way::Short, &recipe).unwrap();
-        let mut frames = Vec::new();
-        for _ in 0..random.one_of(&[0, 1, 10, 30, 300]) {
-            frames.extend(match random.below(6) {
-                0 => frame.clone(),
-                _ => a_line(&mut random, &steps),
-            });
-            frames.push(b'\n');
-        }
-        if random.below(4) == 0 {
-            frames.pop();
-        }
-        for line in check(&recipe, &frames).split(|&byte| byte == b'\n') {
+        let recipe = recipe(&mut random);
+        let count = random.one_of(&[0, 1, 10, 30, 300]);
+        let frames = random.lines(&recipe, count);
+        for line in check(&recipe.text, &frames).split(|&byte| byte == b'\n') {
             if let [b'f', b'f', high, low, ..] = line {
                 let digits = [*high, *low];
                 let digits = std::str::from_utf8(&digits).unwrap();
@@ -357,8 +319,8 @@ fn decimal_beside_hexadecimal() {
     let folder = Folder::new();
     let mut lines = 0;
     for _ in 0..300 {
-        let (recipe, _) = recipe(&mut random);
-        let steps = text::steps(Way::Short, &recipe).unwrap();
+        let recipe = recipe(&mut random);
+        let (recipe, steps) = (recipe.text, recipe.steps);
         let kinds: Vec<Kind> = steps
             .iter()
             .filter(|step| step.operation.is_input())

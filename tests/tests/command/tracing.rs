@@ -5,7 +5,7 @@ use crate::running::{recipe, words};
 use crate::{run_file, run_input};
 use estrenwind_tests::patterns::Random;
 use estrenwind_tests::recipes::frame;
-use estrenwind_tests::reference::recipe::{run, text, Step, Way};
+use estrenwind_tests::reference::recipe::{run, Step, Way};
 use std::collections::BTreeMap;
 
 /// The bits in a table: each row ends with them, under their title.
@@ -30,8 +30,8 @@ fn generated() {
     let folder = Folder::new();
     let mut counts: BTreeMap<u64, usize> = BTreeMap::new();
     for _ in 0..400 {
-        let (recipe, whole) = recipe(&mut random);
-        let steps = text::steps(Way::Short, &recipe).unwrap();
+        let recipe = recipe(&mut random);
+        let (recipe, whole, steps) = (recipe.text, recipe.frame, recipe.steps);
         let words = words(&mut random, &steps);
         let mut line = frame(&words);
         match random.below(8) {

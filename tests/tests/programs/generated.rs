@@ -27,21 +27,10 @@ fn recipe(random: &mut Random) -> (Vec<u8>, Vec<u8>) {
 }
 
 fn a_frame(random: &mut Random, steps: &[Step]) -> Vec<u8> {
-    let inputs: Vec<&Step> = steps
-        .iter()
-        .filter(|step| step.operation.is_input())
-        .collect();
-    let mut words: Vec<u64> = inputs
-        .iter()
-        .map(|step| random.inside(step.operation.kind, [step.p, step.q]))
-        .collect();
+    let mut words = random.input_words(steps);
     let fault = random.below(12);
-    if fault == 0 && !inputs.is_empty() {
-        let input = random.below(inputs.len() as u64) as usize;
-        let step = inputs[input];
-        if let Some(word) = random.outside(step.operation.kind, [step.p, step.q]) {
-            words[input] = word;
-        }
+    if fault == 0 {
+        random.put_one_outside(steps, &mut words);
     }
     let mut frame = frame(&words);
     match fault {

@@ -81,10 +81,8 @@ fn examples() {
             .iter()
             .map(|arguments| {
                 let ran = estrenwind(arguments, "");
-                if !arguments.contains(&"--json") {
-                    fits_80_columns(&ran.output);
-                    fits_80_columns(&ran.errors);
-                }
+                fits_80_columns(&ran.output);
+                fits_80_columns(&ran.errors);
                 shown(arguments, ran)
             })
             .collect();

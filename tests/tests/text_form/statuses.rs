@@ -1,6 +1,6 @@
 //! How the command ends, what `--version` and `--help` say, and that colour is for terminals.
 
-use crate::{estrenwind, fits_80_columns, output_of, repository};
+use crate::{built, estrenwind, fits_80_columns, output_of, repository, run_program};
 use std::fs;
 
 const PASSES: &str = "u = input 0 .. 1\nn = lround u\n";
@@ -139,9 +139,9 @@ fn no_colour_where_there_is_no_terminal() {
     }
 }
 
-/// The format of steps is the library's: what its own table says of kinds and names is what the text form takes.
+/// What a program reads: a sheet that passes, infinities and large whole numbers in it, and one that is refused.
 #[test]
-fn json_is_json() {
+fn json() {
     let ran = estrenwind(
         &["sheet", "--json", "-"],
         "u = input -inf .. 1\nn = constant whole 9223372036854775807\nx = negate u\n",
@@ -161,5 +161,33 @@ fn json_is_json() {
         refused.output,
         "{\"file\": \"standard input\", \"passed\": false, \"refusal\": {\"number\": 20, \"step\": 1, \"name\": \"x\", \"words\": \
          \"fmod by u, whose range 0 .. 1 holds zero\", \"mend\": [\"declare u from 1\", \"put fmax u 1 before it\"]}}\n"
+    );
+}
+
+/// A recipe that is refused has nothing to write, so that a standard output that is closed takes nothing from what is said.
+#[test]
+fn a_refusal_is_told_without_an_output() {
+    let command = built("estrenwind");
+    for (text, words) in [(NO_SHEET, "holds zero"), (UNREAD, "no operation inputt")] {
+        let script = format!("'{}' sheet - >&-", command.display());
+        let ran = run_program(
+            "sh".as_ref(),
+            &["-c".as_ref(), script.as_ref()],
+            text.as_bytes(),
+        );
+        assert_eq!(ran.status, 3, "{}", ran.errors);
+        assert!(ran.errors.contains(words), "{}", ran.errors);
+    }
+    let script = format!("'{}' sheet - >&-", command.display());
+    let ran = run_program(
+        "sh".as_ref(),
+        &["-c".as_ref(), script.as_ref()],
+        PASSES.as_bytes(),
+    );
+    assert_eq!(ran.status, 74);
+    assert!(
+        ran.errors.contains("cannot write standard output"),
+        "{}",
+        ran.errors
     );
 }

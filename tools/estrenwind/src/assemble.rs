@@ -615,7 +615,7 @@ fn bare_kind(kind: Kind) -> &'static str {
 }
 
 /// `a double`
-pub fn kind_words(kind: Kind) -> String {
+fn kind_words(kind: Kind) -> String {
     format!("a {}", bare_kind(kind))
 }
 

@@ -5,7 +5,7 @@ use crate::recipe::Recipe;
 use estrenwind::Step;
 
 /// Which constants stand as numbers where their one user names them: those that the assembler would put in the same place.
-pub fn folded(steps: &[Step]) -> Vec<bool> {
+fn folded(steps: &[Step]) -> Vec<bool> {
     let mut uses = vec![0; steps.len()];
     for operand in steps.iter().flat_map(Step::operands) {
         uses[operand] += 1;

@@ -26,8 +26,8 @@ failed.
 
 What is proved: every sheet, every explanation and every answer to a frame is
 worked out by the proved library, and this command passes it on. Not proved is
-what this command adds: the text form, decimal numbers, and files. Its tests
-hold it to the proved programs sheet, explain and run, byte for byte.
+what this command adds: the text form, decimal numbers, words and files. Its
+tests hold sheets and runs to those of the proved programs, byte for byte.
 ";
 
 pub const CHECK: &str = "\

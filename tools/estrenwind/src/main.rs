@@ -95,7 +95,10 @@ fn write(path: Option<&Path>, bytes: &[u8]) -> Result<Status, Failure> {
 }
 
 fn show(shown: Shown) -> Result<Status, Failure> {
-    write(None, shown.output.as_bytes())?;
+    // Where there is nothing to write, an output that cannot be written takes nothing from what there is to say.
+    if !shown.output.is_empty() {
+        write(None, shown.output.as_bytes())?;
+    }
     say(&shown.message);
     Ok(shown.status)
 }

@@ -89,6 +89,7 @@ impl Mend {
 
     fn words(&self, reason: &Reason) -> String {
         let name = |k: usize| &reason.recipe.names[k];
+        let it = |k: usize| if k == reason.step { "it" } else { name(k) };
         let double = |x: f64| number::word_text(Kind::Double, x.to_bits());
         match *self {
             Mend::Declare { input, low, high } => {
@@ -114,28 +115,19 @@ impl Mend {
             } => {
                 let step = &reason.recipe.steps[at];
                 let operand = name(if on_b { step.b } else { step.a });
-                let it = if at == reason.step {
-                    "it".to_owned()
-                } else {
-                    name(at).clone()
-                };
                 format!(
-                    "put {} {operand} {} before {it}",
+                    "put {} {operand} {} before {}",
                     operation.name(),
-                    double(limit)
+                    double(limit),
+                    it(at)
                 )
             }
             Mend::Clamp { at, low, high } => {
                 let operand = name(reason.recipe.steps[at].a);
-                let it = if at == reason.step {
-                    "it".to_owned()
-                } else {
-                    name(at).clone()
-                };
+                let (low, high) = (double(low), double(high));
                 format!(
-                    "put fmax {operand} {}, and fmin of that with {}, before {it}",
-                    double(low),
-                    double(high)
+                    "put fmax {operand} {low}, and fmin of that with {high}, before {}",
+                    it(at)
                 )
             }
             Mend::Constant { step, word } => {
@@ -206,20 +198,17 @@ fn declarations(reason: &Reason) -> Vec<Mend> {
         | Cause::LroundHigh
             if is_input(operand) =>
         {
-            limits(reason)
-                .iter()
-                .flat_map(|&limit| {
-                    [
-                        declare(operand, double(-limit), None),
-                        declare(operand, None, double(limit)),
-                        declare(operand, double(-limit), double(limit)),
-                    ]
-                })
-                .collect()
+            within(
+                &[operand],
+                &limits(reason)
+                    .iter()
+                    .map(|x| [-x, *x].map(f64::to_bits))
+                    .collect::<Vec<_>>(),
+            )
         }
         Cause::WholeLow | Cause::WholeHigh => within(
             &whole_inputs(reason, &[step.a, step.b]),
-            &[HALF_OF_WHOLE, EXACT],
+            &[HALF_OF_WHOLE, EXACT].map(whole_ends),
         ),
         Cause::LdexpLowOverflows | Cause::LdexpHighOverflows => {
             let changed = |word: u64| {
@@ -240,19 +229,27 @@ fn declarations(reason: &Reason) -> Vec<Mend> {
         }
         Cause::TooBigLow | Cause::TooBigHigh => within(
             &whole_inputs(reason, &[operand]),
-            &[EXACT, EXACT / 2, EXACT / 4],
+            &[EXACT, EXACT / 2, EXACT / 4].map(whole_ends),
         ),
         _ => vec![],
     }
 }
 
-/// Each of these inputs within each of these limits, at its low end, at its high end, and at both.
-fn within(inputs: &[usize], limits: &[i64]) -> Vec<Mend> {
+/// The 64 bits of a whole number's negative, and its own.
+fn whole_ends(limit: i64) -> [u64; 2] {
+    [-limit, limit].map(|end| end as u64)
+}
+
+/// Each of these inputs within each of these ranges, at its low end, at its high end, and at both.
+fn within(inputs: &[usize], ranges: &[[u64; 2]]) -> Vec<Mend> {
     let mut mends = Vec::new();
-    for limit in limits {
+    for &[low, high] in ranges {
         for &input in inputs {
-            let (low, high) = (Some(-limit as u64), Some(*limit as u64));
-            let ends = [(low, None), (None, high), (low, high)];
+            let ends = [
+                (Some(low), None),
+                (None, Some(high)),
+                (Some(low), Some(high)),
+            ];
             mends.extend(ends.map(|(low, high)| Mend::Declare { input, low, high }));
         }
     }
@@ -286,7 +283,7 @@ fn whole_inputs(reason: &Reason, steps: &[usize]) -> Vec<usize> {
 /// fmin and fmax put in.
 fn insertions(reason: &Reason) -> Vec<Mend> {
     let at = reason.step;
-    let bound = |operation, limit| Mend::Bound {
+    let bound = |at: usize, operation, limit| Mend::Bound {
         at,
         on_b: false,
         operation,
@@ -294,18 +291,8 @@ fn insertions(reason: &Reason) -> Vec<Mend> {
     };
     let both = |at: usize, limit: f64| {
         [
-            Mend::Bound {
-                at,
-                on_b: false,
-                operation: Operation::Fmax,
-                limit: -limit,
-            },
-            Mend::Bound {
-                at,
-                on_b: false,
-                operation: Operation::Fmin,
-                limit,
-            },
+            bound(at, Operation::Fmax, -limit),
+            bound(at, Operation::Fmin, limit),
             Mend::Clamp {
                 at,
                 low: -limit,
@@ -327,21 +314,12 @@ fn insertions(reason: &Reason) -> Vec<Mend> {
         | Cause::DividendHighInfinite
         | Cause::LdexpLowInfinite
         | Cause::LdexpHighInfinite
+        | Cause::LdexpLowOverflows
+        | Cause::LdexpHighOverflows
         | Cause::LroundLow
         | Cause::LroundHigh => limits(reason)
             .iter()
             .flat_map(|&limit| both(at, limit))
-            .collect(),
-        Cause::LdexpLowOverflows | Cause::LdexpHighOverflows => WIDE
-            .iter()
-            .flat_map(|&limit| {
-                [
-                    bound(Operation::Fmax, -limit),
-                    bound(Operation::Fmin, limit),
-                ]
-                .into_iter()
-                .chain(both(at, limit))
-            })
             .collect(),
         // Whole numbers have no fmin: where they come from lround, what it rounds is bounded.
         Cause::TooBigLow | Cause::TooBigHigh

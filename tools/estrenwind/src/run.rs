@@ -7,13 +7,11 @@ use crate::output::Output;
 use crate::part::{Ending, Heading};
 use crate::progress::{say, Progress, Reached};
 use crate::recipe::Recipe;
-use crate::shard::Blocks;
+use crate::shard::{Blocks, Shard};
 use crate::tally::Tally;
 use crate::trace::trace;
 use estrenwind::{read_answer, run_lines, MOST_FRAME};
 use std::path::PathBuf;
-
-pub use crate::shard::Shard;
 
 /// Bytes of answers that are written at once, at most.
 const ANSWERS: usize = 64 << 10;
