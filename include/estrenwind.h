@@ -30,20 +30,20 @@ extern "C" {
 
 /* ---- Version and sizes ---- */
 
-#define EW_VERSION "0.1.0"
+#define EW_VERSION "0.2.0"
 #define EW_VERSION_MAJOR 0
-#define EW_VERSION_MINOR 1
+#define EW_VERSION_MINOR 2
 #define EW_VERSION_PATCH 0
 
 /* What recipes, frames and sheets measure, in bytes where nothing else is said. A line's length counts its line feed. */
 #define EW_MOST_STEPS 128                                /* steps of the longest recipe: words that are enough for every ew_run */
 #define EW_MOST_INPUTS 16                                /* inputs of a recipe */
 #define EW_RECIPE_LINE 39                                /* a recipe, per step */
-#define EW_SHEET_LINE 37                                 /* a sheet, per step */
+#define EW_SHEET_LINE 39                                 /* a sheet, per step */
 #define EW_FRAME_INPUT 16                                /* a frame, per input */
 #define EW_ANSWER_LINE 19                                /* the longest answer to a frame line */
 #define EW_MOST_TEXT (EW_MOST_STEPS * EW_RECIPE_LINE)    /* 4992: the longest recipe */
-#define EW_MOST_SHEET (EW_MOST_STEPS * EW_SHEET_LINE)    /* 4736: memory that is enough for every ew_sheet */
+#define EW_MOST_SHEET (EW_MOST_STEPS * EW_SHEET_LINE)    /* 4992: memory that is enough for every ew_sheet */
 #define EW_MOST_FRAME (EW_MOST_INPUTS * EW_FRAME_INPUT)  /* 256: the longest frame */
 
 /* ---- Bits and values ---- */
@@ -434,12 +434,21 @@ enum {
 typedef struct { uint64_t refusal, place, steps; } ew_sheet_answer;
 
 /*
- * ew_sheet works out, from the ranges that a recipe declares for its inputs, a range for every step, and writes one line per step to
- * sheet, EW_SHEET_LINE bytes each: step 2 lower-case hexadecimal digits, kind 2, low 16, high 16, a line feed. Memory past the last line
- * stays as it was.
+ * ew_sheet works out, from the ranges that a recipe declares for its inputs, a range for every step and whether its value is whole, and
+ * writes one line per step to sheet, EW_SHEET_LINE bytes each: step 2 lower-case hexadecimal digits, kind 2, mark 2, low 16, high 16, a line
+ * feed. Memory past the last line stays as it was.
  *
  * A passed sheet (refusal 0) is a promise, and proved: of any frame that is refused nothing of 30, 31 and 32, ew_run, given room, completes,
- * and every step's value has the kind and lies in the range that its line shows, both ends included.
+ * and every step's value has the kind and lies in the range that its line shows, both ends included. Where a double's mark is 01, its value
+ * is also finite and has no fraction; 00 promises nothing of that. The mark of step k is 01 where sheet[k * EW_SHEET_LINE + 5] is '1'.
+ *
+ * Marked 01 are, by their opcodes, and all others are 00:
+ *     every step of kind EW_WHOLE
+ *     32, a whole number as a double
+ *     01, an input of one number (as +0 to -0 is), and 03, a constant, where that number is finite and has no fraction
+ *     10 to 14, the roundings, where both ends of the range are finite
+ *     16 and 17, fabs and negate, where A is
+ *     20, 21 and 22, fmin, fmax and fmod, where A and B are
  *
  * Refuses 10 to 17 for the text, 40 where sheet has fewer than EW_SHEET_LINE bytes per step, and 20 to 22 for a step some of whose values
  * ew_run might refuse: the first in that order, and no byte is written.

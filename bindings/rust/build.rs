@@ -1,4 +1,5 @@
-//! Links libestrenwind.a: from the folder in ESTRENWIND_LIB_DIR, or else from where pkg-config says that it is installed.
+//! Links libestrenwind.a: from the folder in ESTRENWIND_LIB_DIR, or else from where pkg-config says that it is installed. An installed one has to
+//! be of this crate's version, since the crate has the sizes of its lines.
 
 use std::env;
 use std::path::PathBuf;
@@ -25,8 +26,9 @@ fn main() {
 
 fn installed() -> PathBuf {
     let program = env::var_os("PKG_CONFIG").unwrap_or("pkg-config".into());
+    let module = concat!("estrenwind = ", env!("CARGO_PKG_VERSION"));
     let output = Command::new(&program)
-        .args(["--variable=libdir", "estrenwind"])
+        .args(["--print-errors", "--variable=libdir", module])
         .output();
     match output {
         Ok(output) if output.status.success() => {
@@ -34,7 +36,7 @@ fn installed() -> PathBuf {
             PathBuf::from(folder.trim())
         }
         Ok(output) => panic!(
-            "Estrenwind is not installed where pkg-config looks: {}Set PKG_CONFIG_PATH, or name the folder of libestrenwind.a in ESTRENWIND_LIB_DIR.",
+            "{module} is not installed where pkg-config looks: {}Set PKG_CONFIG_PATH, or name the folder of libestrenwind.a in ESTRENWIND_LIB_DIR.",
             String::from_utf8_lossy(&output.stderr)
         ),
         Err(error) => panic!(

@@ -558,10 +558,10 @@ static void check_lines(void)
     check("lines' answers", 4, memcmp(answers, "ff1e00\nff1e00\nff1e00\n", 21) == 0, 1);
 }
 
-/* Its sheet, as document 01 prints it. */
-static const char lines[] = "0001c004000000000000401d000000000000\n"
-                            "0101c008000000000000401c000000000000\n"
-                            "0202fffffffffffffffd0000000000000007\n";
+/* Its sheet, as document 01 prints it, with W-203's marks. */
+static const char lines[] = "000100c004000000000000401d000000000000\n"
+                            "010101c008000000000000401c000000000000\n"
+                            "020201fffffffffffffffd0000000000000007\n";
 
 static void check_sheet(void)
 {
@@ -569,17 +569,25 @@ static void check_sheet(void)
     const size_t length = sizeof recipe - 1, room = sizeof lines - 1;
     uint8_t sheet[sizeof lines + 1];
     ew_sheet_answer s;
+    size_t k;
     memset(sheet, '#', sizeof sheet);
     s = ew_sheet(text, length, sheet, room - 1);
     check("sheet refusal", 0, s.refusal, EW_REFUSED_ROOM);
     check("sheet steps", 0, s.steps, 0);
     check("sheet writes nothing", 0, sheet[0], '#');
+    /* What was enough for a line without its mark. */
+    s = ew_sheet(text, length, sheet, (size_t)3 * (EW_SHEET_LINE - 2));
+    check("sheet refusal", 2, s.refusal, EW_REFUSED_ROOM);
+    check("sheet writes nothing", 2, sheet[0], '#');
     s = ew_sheet(text, length, sheet, sizeof sheet);
     check("sheet refusal", 1, s.refusal, EW_ACCEPTED);
     check("sheet place", 1, s.place, 0);
     check("sheet steps", 1, s.steps, 3);
     check("sheet lines", 1, memcmp(sheet, lines, room) == 0, 1);
     check("sheet leaves the rest", 1, sheet[room], '#');
+    check("room of a sheet", 1, room, 3 * EW_SHEET_LINE);
+    for (k = 0; k < 3; k++)
+        check("mark", k, sheet[k * EW_SHEET_LINE + 5], k == 0 ? '0' : '1');
 }
 
 /* The remainder of an input by another whose range holds zero; the recipe above, whose sheet passes; and half a line. */
@@ -664,11 +672,11 @@ static void check_constants(void)
     check("steps", 0, EW_MOST_STEPS, 128);
     check("inputs", 0, EW_MOST_INPUTS, 16);
     check("recipe's line", 0, EW_RECIPE_LINE, 39);
-    check("sheet's line", 0, EW_SHEET_LINE, 37);
+    check("sheet's line", 0, EW_SHEET_LINE, 39);
     check("digits per input", 0, EW_FRAME_INPUT, 16);
     check("longest answer", 0, EW_ANSWER_LINE, 19);
     check("longest text", 0, EW_MOST_TEXT, 4992);
-    check("longest sheet", 0, EW_MOST_SHEET, 4736);
+    check("longest sheet", 0, EW_MOST_SHEET, 4992);
     check("longest frame", 0, EW_MOST_FRAME, 256);
 }
 
@@ -687,7 +695,7 @@ int main(void)
         check_run();
         check_lines();
         check_sheet();
-    check_explain();
+        check_explain();
         check_nothing();
         check_addresses();
     }

@@ -48,13 +48,13 @@ used() { # used FOLDER: installs there, uses what is installed, and removes it
     [ "$(installed "$1")" = "$files" ] || fail "$1: an install has other files"
 
     # The programs, on document 01's example.
-    [ "$(echo "$recipe" | "$1/bin/sheet" | tail -n 1)" = 0202fffffffffffffffd0000000000000007 ] || fail "$1: the installed sheet is wrong"
+    [ "$(echo "$recipe" | "$1/bin/sheet" | tail -n 1)" = 020201fffffffffffffffd0000000000000007 ] || fail "$1: the installed sheet is wrong"
     [ "$(printf '%s\n\nbfe0000000000000\n' "$recipe" | "$1/bin/run")" = 02ffffffffffffffff ] || fail "$1: the installed run is wrong"
     [ "$(echo "$recipe" | "$1/bin/explain")" = 00 ] || fail "$1: the installed explain is wrong"
 
     # The command, from another folder than the one it was built in.
     [ "$("$1/bin/estrenwind" --version)" = "estrenwind $version" ] || fail "$1: the installed command has another version"
-    [ "$(echo "$recipe" | "$1/bin/estrenwind" sheet --hex - | tail -n 1)" = 0202fffffffffffffffd0000000000000007 ] || fail "$1: the installed command is wrong"
+    [ "$(echo "$recipe" | "$1/bin/estrenwind" sheet --hex - | tail -n 1)" = 020201fffffffffffffffd0000000000000007 ] || fail "$1: the installed command is wrong"
 
     if command -v pkg-config >/dev/null; then
         export PKG_CONFIG_PATH="$1/lib/pkgconfig"

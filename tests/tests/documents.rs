@@ -1,11 +1,11 @@
 //! The header, docs/FORMATS.md and the manual pages tell the same refusals, and their examples are what the
-//! programs print; the tables of docs/HALVES.md have the reference's answers. The version is the same wherever
-//! it stands, and the header's sizes are the reference's. docs/CONTRACTS.md names every must-fail edit, and no
+//! programs print; the tables of docs/HALVES.md have the reference's answers. The tables of marks have every
+//! opcode once. The version is the same wherever it stands, and the header's sizes are the reference's. docs/CONTRACTS.md names every must-fail edit, and no
 //! other.
 
 use estrenwind_tests::answer::Answer;
 use estrenwind_tests::programs::{explain_output, run_output, sheet_output};
-use estrenwind_tests::reference::recipe::{frame, lines, sheet, text, Way};
+use estrenwind_tests::reference::recipe::{frame, lines, sheet, text, Kind, Way, OPERATIONS};
 use estrenwind_tests::reference::{conversion, rounding, BINARY16, BINARY32};
 use std::collections::{BTreeMap, BTreeSet};
 use std::fs;
@@ -211,10 +211,22 @@ fn one_version() {
     assert_eq!(defined("EW_VERSION"), format!("\"{version}\""));
     let parts = ["MAJOR", "MINOR", "PATCH"].map(|part| defined(&format!("EW_VERSION_{part}")));
     assert_eq!(parts.join("."), version);
-    assert_eq!(
-        line_after("bindings/rust/Cargo.toml", "version = "),
-        format!("\"{version}\"")
-    );
+    for folder in ["bindings/rust", "tools/estrenwind", "tests"] {
+        assert_eq!(
+            line_after(&format!("{folder}/Cargo.toml"), "version = "),
+            format!("\"{version}\"")
+        );
+        // The lock file has this repository's crates alone, and a line for the version of its own form.
+        let lock = read(&format!("{folder}/Cargo.lock"));
+        for line in lock.lines().filter(|line| line.starts_with("version = \"")) {
+            assert_eq!(line, format!("version = \"{version}\""), "{folder}");
+        }
+    }
+    let changelog = read("CHANGELOG.md");
+    let latest = changelog
+        .lines()
+        .find(|line| line.starts_with("## [") && *line != "## [Unreleased]");
+    assert_eq!(latest, Some(format!("## [{version}]").as_str()));
 }
 
 #[test]
@@ -238,6 +250,161 @@ fn sizes_are_the_reference_s() {
         let value = defined(name);
         assert!(value.contains(&format!("/* {size}: ")), "{value}");
     }
+}
+
+/// When a step is marked, as a row of a table says it.
+#[derive(Clone, Copy, Debug, PartialEq, Eq)]
+enum Marked {
+    Always,
+    OneNumber,
+    FiniteEnds,
+    WhereAIs,
+    WhereBothAre,
+    Never,
+}
+
+/// The rule that a cell names or puts in words.
+fn marked(cell: &str) -> Marked {
+    let begins = |start: &str| cell.starts_with(start);
+    match cell {
+        _ if begins("always") => Marked::Always,
+        _ if begins("P and Q are one number") || begins("P is finite") => Marked::OneNumber,
+        _ if begins("it is one number") => Marked::OneNumber,
+        _ if begins("both ends of its range are finite") => Marked::FiniteEnds,
+        "A is marked" => Marked::WhereAIs,
+        "A and B are marked" => Marked::WhereBothAre,
+        _ if begins("never") => Marked::Never,
+        "`mark.whole`" | "`mark.to-double`" => Marked::Always,
+        "`mark.one-number`" => Marked::OneNumber,
+        "`mark.rounding`" => Marked::FiniteEnds,
+        "`mark.sign`" => Marked::WhereAIs,
+        "`mark.both`" => Marked::WhereBothAre,
+        "`mark.none`" => Marked::Never,
+        _ => panic!("{cell} is no rule of marks"),
+    }
+}
+
+/// The opcodes in a cell: `10`, `16, 17`, `10 to 14`.
+fn opcodes(cell: &str) -> Vec<u8> {
+    let number = |text: &str| u8::from_str_radix(text.trim(), 16).unwrap();
+    let range = |part: &str| {
+        let (low, high) = part.split_once(" to ").unwrap_or((part, part));
+        number(low)..=number(high)
+    };
+    cell.split(',').flat_map(range).collect()
+}
+
+/// The rules by opcode, each once, of rows that have the opcodes in one cell and the rule in another.
+fn rules_of<'a>(rows: impl Iterator<Item = (&'a str, &'a str)>) -> BTreeMap<u8, Marked> {
+    let mut rules = BTreeMap::new();
+    for (cell, rule) in rows {
+        for opcode in opcodes(cell) {
+            assert_eq!(rules.insert(opcode, marked(rule)), None, "{opcode:02x}");
+        }
+    }
+    rules
+}
+
+/// The mark of the last step of a recipe, by the reference: none where it has no sheet.
+fn last_mark(steps: &[String]) -> Option<bool> {
+    let sheet = sheet_output(Way::Exact, steps.concat().as_bytes());
+    let sheet = String::from_utf8(sheet).unwrap();
+    let last = sheet.lines().last().unwrap();
+    (!last.starts_with("ff")).then(|| &last[4..6] == "01")
+}
+
+/// A step's line.
+fn step(opcode: u8, a: u8, b: u8, p: f64, q: f64) -> String {
+    let [p, q] = [p, q].map(f64::to_bits);
+    format!("{opcode:02x}{a:02x}{b:02x}{p:016x}{q:016x}\n")
+}
+
+/// FORMATS, the manual page of sheet and the rules have one and the same mark rule for every opcode, and the
+/// reference goes by it.
+#[test]
+fn every_opcode_has_its_mark_rule() {
+    let formats = read("docs/FORMATS.md");
+    let (_, section) = formats.split_once("### The mark\n").unwrap();
+    let (section, _) = section.split_once("\n## ").unwrap();
+    let in_formats = rules_of(section.lines().filter_map(|line| {
+        let row: Vec<&str> = line.split('|').map(str::trim).collect();
+        let is_row = row.len() == 5 && row[1].starts_with(|c: char| c.is_ascii_digit());
+        is_row.then(|| (row[1], row[3]))
+    }));
+    let page = read("man/sheet.1");
+    let (_, table) = page.split_once("\\fBMarked where\\fR\n").unwrap();
+    let (table, _) = table.split_once(".TE").unwrap();
+    let in_page = rules_of(table.lines().map(|row| row.split_once('\t').unwrap()));
+    let rules = read("docs/RULES.md");
+    let in_rules = rules_of(rules.lines().filter_map(|line| {
+        let row: Vec<&str> = line.split('|').map(str::trim).collect();
+        (row.len() == 8 && row[6].starts_with("`mark.")).then(|| (row[1], row[6]))
+    }));
+    assert_eq!(in_formats, in_rules);
+    assert_eq!(in_page, in_rules);
+    let all = OPERATIONS.iter();
+    let all: Vec<u8> = all.map(|operation| operation.opcode).collect();
+    assert_eq!(in_rules.keys().copied().collect::<Vec<u8>>(), all);
+
+    for operation in &OPERATIONS {
+        let opcode = operation.opcode;
+        let rule = in_rules[&opcode];
+        // On a double that is marked, on doubles that are not, and on such that may be infinite: what the rule says.
+        for (high, is_one, is_finite) in [
+            (1.0, true, true),
+            (1.5, false, true),
+            (f64::INFINITY, false, false),
+        ] {
+            let double = step(0x01, 0, 0, 1.0, high);
+            let whole = step(0x04, 0, 0, 0.0, 0.0);
+            let operands = operation.source.operands();
+            let place = |i: usize| match operands.get(i) {
+                Some(Kind::Whole) => 1,
+                _ => 0,
+            };
+            let q = if operation.is_input() { high } else { 0.0 };
+            let p = if operation.uses_p() { 1.0 } else { 0.0 };
+            let last = step(opcode, place(0), place(1), p, q);
+            let Some(mark) = last_mark(&[double, whole, last]) else {
+                continue;
+            };
+            let expected = match rule {
+                Marked::Always => true,
+                Marked::OneNumber => is_one || !operation.is_input(),
+                Marked::FiniteEnds => is_finite,
+                Marked::WhereAIs | Marked::WhereBothAre => is_one,
+                Marked::Never => false,
+            };
+            assert_eq!(mark, expected, "{opcode:02x} up to {high}");
+        }
+    }
+}
+
+/// A sheet's line had 36 digits before it had a mark. None is left where formats are shown.
+#[test]
+fn no_sheet_line_without_a_mark() {
+    let names = [
+        "README.md",
+        "docs/FORMATS.md",
+        "docs/RULES.md",
+        "include/estrenwind.h",
+    ]
+    .map(str::to_string);
+    let pages = listed("man").into_iter().map(|name| format!("man/{name}"));
+    let examples = listed("examples").into_iter().flat_map(|folder| {
+        let files = listed(&format!("examples/{folder}")).into_iter();
+        files.map(move |file| format!("examples/{folder}/{file}"))
+    });
+    let mut lines = 0;
+    for name in names.into_iter().chain(pages).chain(examples) {
+        let text = read(&name);
+        for word in text.split(|c: char| !c.is_ascii_alphanumeric()) {
+            let is_hex = word.bytes().all(|byte| byte.is_ascii_hexdigit());
+            assert!(!(is_hex && word.len() == 36), "{name}: {word}");
+            lines += usize::from(is_hex && word.len() == 38);
+        }
+    }
+    assert!(lines > 200, "{lines} lines of recipes and sheets");
 }
 
 #[test]

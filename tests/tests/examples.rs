@@ -50,7 +50,7 @@ fn shown_and_answered(example: &Path, recipe: &str, sheet: &str, answers: &str) 
 
 #[test]
 fn sheets_explanations_and_answers_are_the_reference_s() {
-    assert_eq!(examples().len(), 8);
+    assert_eq!(examples().len(), 9);
     for example in examples() {
         shown_and_answered(&example, "recipe", "sheet", "answers");
         let explained = text(explain_output(
@@ -125,6 +125,40 @@ fn exchanged_operands_of_fmin_give_the_same_answers() {
     assert!(recipe.contains(&exchanged));
     let input = format!("{recipe}\n{frames}");
     assert_eq!(text(run_output(Way::Exact, input.as_bytes())), answers);
+}
+
+/// The mark of a step in a sheet that stands in a file.
+fn mark(example: &Path, step: usize) -> String {
+    let sheet = read(example, "sheet");
+    let line = sheet.lines().nth(step).unwrap();
+    assert!(line.starts_with(&format!("{step:02x}01")), "a double");
+    line[4..6].to_string()
+}
+
+/// What the README of the texel for a lookup says beside the index clamp: to bound and then round, or
+/// to round and then bound, gives the same doubles, and the first way alone has the mark.
+#[test]
+fn the_order_of_rounding_and_bounding_matters_to_the_mark() {
+    let folder = Path::new(env!("CARGO_MANIFEST_DIR")).join("../examples");
+    let [lookup, clamp] = ["texel_lookup", "index_clamp"].map(|name| folder.join(name));
+    let frames = read(&lookup, "frames") + &read(&clamp, "frames");
+    // Each without what follows the double in question.
+    let answers = [(&lookup, 5), (&clamp, 5)].map(|(example, step)| {
+        let recipe: String = read(example, "recipe")
+            .split_inclusive('\n')
+            .take(step + 1)
+            .collect();
+        text(run_output(
+            Way::Exact,
+            format!("{recipe}\n{frames}").as_bytes(),
+        ))
+    });
+    assert_eq!(answers[0], answers[1]);
+    assert!(answers[0].starts_with("01"), "they are doubles");
+    assert_eq!(
+        (mark(&lookup, 5), mark(&clamp, 5)),
+        ("01".into(), "00".into())
+    );
 }
 
 /// What the README of the recipe that is turned down advises: to declare the width from 1, or to

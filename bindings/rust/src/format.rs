@@ -254,6 +254,15 @@ impl Fields<'_> {
     }
 }
 
+/// Whether a mark, by its number, says that a value is a whole number.
+fn read_mark(number: u64) -> Option<bool> {
+    match number {
+        0 => Some(false),
+        1 => Some(true),
+        _ => None,
+    }
+}
+
 /// A line of a recipe. What its operation does not use is 0.
 ///
 /// ```
@@ -316,23 +325,36 @@ pub fn steps(recipe: &[u8]) -> Option<Vec<Step>> {
         .collect()
 }
 
-/// A line of a [`sheet`](crate::sheet): a step's kind and the ends of its range, 64 bits each.
+/// A line of a [`sheet`](crate::sheet): a step's kind, its mark, and the ends of its range, 64 bits each.
+///
+/// ```
+/// use estrenwind::{Kind, Range};
+///
+/// let floor = Range::read(b"010101c008000000000000401c000000000000").unwrap();
+/// assert_eq!((floor.step, floor.kind, floor.whole), (1, Kind::Double, true));
+/// assert_eq!((f64::from_bits(floor.low), f64::from_bits(floor.high)), (-3.0, 7.0));
+/// ```
 #[derive(Clone, Copy, Debug, PartialEq, Eq, Hash)]
 #[allow(missing_docs)]
 pub struct Range {
     pub step: usize,
     pub kind: Kind,
+    /// The mark: whether the value is known to be a whole number, which a double is where it is finite and has no fraction. Where this is
+    /// false nothing is promised: the value may be a whole number all the same.
+    pub whole: bool,
     pub low: u64,
     pub high: u64,
 }
 
 impl Range {
-    /// The range of a line without its line feed.
+    /// The range of a line without its line feed. None where it has another length, a kind that there is not, or a mark that is neither 00
+    /// nor 01.
     pub fn read(line: &[u8]) -> Option<Range> {
         let mut fields = Fields(line);
         let range = Range {
             step: fields.next(2)? as usize,
             kind: Kind::from_number(fields.next(2)?)?,
+            whole: read_mark(fields.next(2)?)?,
             low: fields.next(16)?,
             high: fields.next(16)?,
         };
@@ -398,15 +420,47 @@ mod tests {
     }
 
     #[test]
+    fn a_range_is_its_fields() {
+        let line = "7f0201fffffffffffffffd0000000000000007";
+        assert_eq!(line.len() + 1, crate::SHEET_LINE);
+        let range = Range {
+            step: 127,
+            kind: Kind::Whole,
+            whole: true,
+            low: -3i64 as u64,
+            high: 7,
+        };
+        assert_eq!(Range::read(line.as_bytes()), Some(range));
+    }
+
+    /// Every mark of two bytes but 00 and 01, and the line of before there were marks.
+    #[test]
+    fn other_marks_are_none() {
+        let line = *b"010100c008000000000000401c000000000000";
+        for (first, second) in (0..=255).flat_map(|first| (0..=255).map(move |x| (first, x))) {
+            let mut line = line;
+            line[4..6].copy_from_slice(&[first, second]);
+            let whole = match &line[4..6] {
+                b"00" => Some(false),
+                b"01" => Some(true),
+                _ => None,
+            };
+            assert_eq!(Range::read(&line).map(|range| range.whole), whole);
+        }
+        assert_eq!(Range::read(b"0101c008000000000000401c000000000000"), None);
+    }
+
+    #[test]
     fn lines_of_other_lengths_are_none() {
         let line = b"10000000000000000000000000000000000000";
         assert!(Step::read(line).is_some());
         assert!(Step::read(&line[1..]).is_none());
         assert!(Step::read(b"100000000000000000000000000000000000000").is_none());
         assert!(Step::read(b"1000000000000000000000000000000000000G").is_none());
-        assert!(Range::read(b"0001c004000000000000401d000000000000").is_some());
-        assert!(Range::read(b"0001c004000000000000401d0000000000000").is_none());
-        assert!(Range::read(b"0003c004000000000000401d000000000000").is_none());
+        assert!(Range::read(b"000100c004000000000000401d000000000000").is_some());
+        assert!(Range::read(b"000100c004000000000000401d0000000000000").is_none());
+        assert!(Range::read(b"000100c004000000000000401d00000000000").is_none());
+        assert!(Range::read(b"000300c004000000000000401d000000000000").is_none());
         assert!(read_answer(b"02ffffffffffffffff0").is_none());
         assert!(read_answer(b"ff200").is_none());
     }

@@ -7,8 +7,8 @@ use std::fmt;
 /// Steps of the longest recipe: words of memory that are enough for every [`run`].
 pub const MOST_STEPS: usize = 128;
 
-/// Bytes of a [`sheet`] per step.
-pub const SHEET_LINE: usize = 37;
+/// Bytes of a [`sheet`] per step, its line feed counted.
+pub const SHEET_LINE: usize = 39;
 
 /// Bytes of memory that are enough for every [`sheet`].
 pub const MOST_SHEET: usize = SHEET_LINE * MOST_STEPS;
@@ -233,12 +233,13 @@ pub fn run(recipe: &[u8], frame: &[u8], words: &mut [u64]) -> Result<Value, Turn
     }
 }
 
-/// Works out the range of every step of a recipe, over all frames whose inputs lie in their declared ranges, writes one line of [`SHEET_LINE`]
-/// bytes per step to `lines` and gives the number of steps. Bytes past the last line stay as they were. A recipe whose sheet passes is refused
-/// by no step of a [`run`].
+/// Works out the range of every step of a recipe, over all frames whose inputs lie in their declared ranges, and whether its value is whole;
+/// writes one line of [`SHEET_LINE`] bytes per step to `lines` and gives the number of steps. Bytes past the last line stay as they were.
+/// A recipe whose sheet passes is refused by no step of a [`run`], and the value of every step lies in its range; that of a step which is
+/// marked whole is finite and has no fraction. [`Range::read`](crate::Range::read) reads a line.
 ///
 /// ```
-/// use estrenwind::{sheet, Fault, MOST_SHEET, SHEET_LINE};
+/// use estrenwind::{sheet, Fault, Range, MOST_SHEET, SHEET_LINE};
 ///
 /// let recipe = b"010000c004000000000000401d000000000000\n\
 ///                10000000000000000000000000000000000000\n\
@@ -247,10 +248,14 @@ pub fn run(recipe: &[u8], frame: &[u8], words: &mut [u64]) -> Result<Value, Turn
 /// let steps = sheet(recipe, &mut lines)?;
 /// assert_eq!(
 ///     &lines[..SHEET_LINE * steps],
-///     b"0001c004000000000000401d000000000000\n\
-///       0101c008000000000000401c000000000000\n\
-///       0202fffffffffffffffd0000000000000007\n"
+///     b"000100c004000000000000401d000000000000\n\
+///       010101c008000000000000401c000000000000\n\
+///       020201fffffffffffffffd0000000000000007\n"
 /// );
+///
+/// // The floor, step 1, is a double without a fraction; the input, step 0, may have one.
+/// let whole = |step: usize| Range::read(&lines[SHEET_LINE * step..][..SHEET_LINE - 1]).unwrap().whole;
+/// assert!(whole(1) && !whole(0));
 ///
 /// // The remainder of a number by itself, which may be zero.
 /// let refused = sheet(b"010000c004000000000000401d000000000000\n\

@@ -60,7 +60,7 @@ fn the_examples() {
             assert_eq!(answer, expected);
         }
     }
-    assert_eq!(found, 8);
+    assert_eq!(found, 9);
 }
 
 /// A double, a whole number, and a step of this opcode on the two in these places.
@@ -131,39 +131,101 @@ fn operations_are_the_library_s() {
                 true => assert_eq!(answer, Ok(Explanation::Passes), "{operation:?}"),
             }
         }
-        // The kind of its value is what the sheet says, and the sheet's lines are what the crate reads.
-        let text = [
-            Step {
-                operation: Operation::Input,
-                a: 0,
-                b: 0,
-                p: one,
-                q: one,
-            },
-            Step {
-                operation: Operation::WholeInput,
-                a: 0,
-                b: 0,
-                p: 1,
-                q: 1,
-            },
-            Step {
-                operation,
-                a: at(0),
-                b: at(1),
-                p: 0,
-                q: 0,
-            },
-        ]
-        .map(|step| step.line())
-        .concat();
-        let read = steps(text.as_bytes()).unwrap();
-        assert_eq!(read[2].operation, operation);
-        let mut lines = [0; MOST_SHEET];
-        assert_eq!(sheet(text.as_bytes(), &mut lines), Ok(3));
-        let line = &lines[2 * SHEET_LINE..3 * SHEET_LINE - 1];
-        let range = Range::read(line).unwrap();
-        assert_eq!((range.step, range.kind), (2, operation.gives()));
+        // The kind of its value is what the sheet says, and the sheet's lines are what the crate reads. On one double, 1, and on doubles
+        // from 1 to 2: those operations are marked that give whole numbers of it.
+        for (high, expected) in [(1f64, on_one(operation)), (2f64, on_some(operation))] {
+            let text = [
+                Step {
+                    operation: Operation::Input,
+                    a: 0,
+                    b: 0,
+                    p: one,
+                    q: high.to_bits(),
+                },
+                Step {
+                    operation: Operation::WholeInput,
+                    a: 0,
+                    b: 0,
+                    p: 1,
+                    q: 1,
+                },
+                Step {
+                    operation,
+                    a: at(0),
+                    b: at(1),
+                    p: 0,
+                    q: 0,
+                },
+            ]
+            .map(|step| step.line())
+            .concat();
+            let read = steps(text.as_bytes()).unwrap();
+            assert_eq!(read[2].operation, operation);
+            let ranges = ranges(text.as_bytes());
+            let range = ranges[2];
+            assert_eq!((range.step, range.kind), (2, operation.gives()));
+            assert_eq!(range.whole, expected, "{operation:?} up to {high}");
+            assert_eq!((ranges[0].whole, ranges[1].whole), (high == 1.0, true));
+        }
+    }
+}
+
+/// Whether an operation is marked on 1, which is marked: all are but these two.
+fn on_one(operation: Operation) -> bool {
+    !matches!(operation, Operation::Fraction | Operation::Ldexp)
+}
+
+/// Whether it is on doubles from 1 to 2, which are not marked: those that hand such a double on, or part of it, are not.
+fn on_some(operation: Operation) -> bool {
+    on_one(operation)
+        && !matches!(
+            operation,
+            Operation::Fabs
+                | Operation::Negate
+                | Operation::Fmin
+                | Operation::Fmax
+                | Operation::Fmod
+        )
+}
+
+/// The lines of a sheet that passes, as values.
+fn ranges(recipe: &[u8]) -> Vec<Range> {
+    let mut lines = [0; MOST_SHEET];
+    let steps = sheet(recipe, &mut lines).unwrap();
+    lines[..SHEET_LINE * steps]
+        .chunks(SHEET_LINE)
+        .map(|line| Range::read(line.strip_suffix(b"\n").unwrap()).unwrap())
+        .collect()
+}
+
+/// What a recipe's last step is marked, for inputs and constants: one number, finite and without a fraction.
+#[test]
+fn marks_of_inputs_and_constants() {
+    let input = |low: f64, high: f64| (Operation::Input, low, high);
+    let constant = |x: f64| (Operation::Constant, x, 0.0);
+    for ((operation, p, q), whole) in [
+        (input(3.0, 3.0), true),
+        (input(3.0, 4.0), false),
+        (input(3.5, 3.5), false),
+        (input(0.0, -0.0), true),
+        (input(-0.0, 0.0), true),
+        (input(0.0, 5e-324), false),
+        (input(f64::INFINITY, f64::INFINITY), false),
+        (constant(-0.0), true),
+        (constant(f64::MAX), true),
+        (constant(4503599627370495.5), false),
+        (constant(5e-324), false),
+        (constant(f64::NEG_INFINITY), false),
+    ] {
+        let step = Step {
+            operation,
+            a: 0,
+            b: 0,
+            p: p.to_bits(),
+            q: q.to_bits(),
+        };
+        let range = ranges(step.line().as_bytes())[0];
+        assert_eq!(range.whole, whole, "{operation:?} {p:?} {q:?}");
     }
 }
 
@@ -232,12 +294,17 @@ fn lent_memory() {
         Err(turned_down(Fault::Room, 0))
     );
     assert_eq!(words, [7; 2]);
-    let mut lines = [7; 112];
+    const ROOM: usize = 3 * SHEET_LINE;
+    let mut lines = [7; ROOM + 1];
     assert_eq!(sheet(RECIPE, &mut lines), Ok(3));
-    assert_eq!((lines[110], lines[111]), (b'\n', 7));
-    let mut lines = [7; 110];
-    assert_eq!(sheet(RECIPE, &mut lines), Err(turned_down(Fault::Room, 0)));
-    assert_eq!(lines, [7; 110]);
+    assert_eq!((lines[ROOM - 1], lines[ROOM]), (b'\n', 7));
+    // One byte short, and what was enough for lines without a mark.
+    for room in [ROOM - 1, 3 * 37] {
+        let mut lines = vec![7; room];
+        assert_eq!(sheet(RECIPE, &mut lines), Err(turned_down(Fault::Room, 0)));
+        assert_eq!(lines, vec![7; room]);
+    }
+    assert_eq!((SHEET_LINE, MOST_SHEET), (39, 4992));
 }
 
 #[test]

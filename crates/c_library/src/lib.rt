@@ -26,8 +26,8 @@ ghost use Rattle.ordering.specs.Ordering.{nextafter, nextafterRefusal, fmin, fm
 ghost use Rattle.recipe.specs.declared.Step.{Step};
 ghost use Rattle.recipe.specs.Text.{short, steps, readText};
 ghost use Rattle.semantics.specs.Run.{runOf, answerOf, wordsOf};
-ghost use Rattle.semantics.specs.Sheet.{sheetOf, bytesOf};
-ghost use Rattle.semantics.specs.Sheet as sheet;
+ghost use Rattle.semantics.specs.Shown.{sheetOf, bytesOf};
+ghost use Rattle.semantics.specs.Shown as sheet;
 ghost use Rattle.semantics.specs.Explain.{explainOf};
 ghost use Rattle.semantics.specs.Explain as explain;
 ghost use Rattle.semantics.specs.Promise.{Keeps};

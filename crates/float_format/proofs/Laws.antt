@@ -47,10 +47,10 @@ result f d x v h = go (answer f d (negative f x) (unsigned f x) v h)
 pub one-pos : (f : Format) → 0 < one f
 one-pos f = pow-pos (bias f + f .fraction - 1)
 
-magnitude-same : (F a b : ℕ) → magnitude F a ≡ magnitude F b → a ≡ b
+pub magnitude-same : (F a b : ℕ) → magnitude F a ≡ magnitude F b → a ≡ b
 magnitude-same F a b e = le-antisymm (magnitude-cancel F (omega arith)) (magnitude-cancel F (omega arith))
 
-zero-finite : (f : Format) → Valid f → {a : ℕ} → a ≡ 0 → a < infinity f
+pub zero-finite : (f : Format) → Valid f → {a : ℕ} → a ≡ 0 → a < infinity f
 zero-finite f v e = omega (arith, room f (bias f) v refl .whole, pow-pos (f .fraction))
 
 module _ (f : Format) (d : Direction) (x : ℕ) (v : Valid f) where

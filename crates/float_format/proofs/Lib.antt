@@ -12,6 +12,7 @@ pub mod Lead
 pub mod Order
 pub mod Bounds
 pub mod Laws
+pub mod Integers
 pub mod Lround
 pub mod Nearest
 pub mod Monotone

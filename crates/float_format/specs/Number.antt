@@ -1,12 +1,12 @@
 -- The number that a pattern stands for, as a whole number of units, and the order of numbers (document 01, "Numbers as whole
 -- numbers"). A unit is the format's smallest subnormal: 2^-1074, 2^-149, 2^-24. An infinity's pattern counts by the same rule, which puts it
 -- beyond every finite number. Definitions only; assumes nothing.
-use mathlib.Core.Bool.{Bool, cond}
+use mathlib.Core.Bool.{Bool, not, _&&_, cond}
 use Prim.Native.Nat.{ℕ, suc, _+_, _-_, _*_, _/_, _%_, _^_, _≤_}
 use lib.Count.{leadingZeros}
 use lib.Dec.{ltb, eqb}
 use lib.Ieee.{size}
-use Rattle.float_format.specs.Format.{Format, signBit, negative, unsigned}
+use Rattle.float_format.specs.Format.{Format, signBit, negative, unsigned, isNan, isInfinite}
 
 -- ---- units
 
@@ -33,6 +33,10 @@ leadingShift F m = leadingZeros 64 m - (63 - F)
 -- the units of a pattern, without its sign
 abbrev pub unitsOf : Format → ℕ → ℕ
 unitsOf f x = magnitude (f .fraction) (unsigned f x)
+
+-- a finite number without a fraction: a whole number of ones
+unfoldable pub isIntegral : Format → ℕ → Bool
+isIntegral f x = not (isNan f x) && not (isInfinite f x) && eqb (unitsOf f x % one f) 0
 
 -- how far two numbers of units are apart
 abbrev pub distance : ℕ → ℕ → ℕ

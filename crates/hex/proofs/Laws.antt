@@ -2,10 +2,10 @@
 -- to 16 digits is read as a word, and digits that were written are read back. Each but the word goes by induction on the digits, with the digits
 -- that came before open as the value a. Assumes nothing.
 use mathlib.Core.Path.{_≡_, refl, ap, _∙_, sym}
-use mathlib.Core.List.{List, [], _∷_, _++_, append-assoc}
+use mathlib.Core.List.{List, [], _∷_, _++_, append-assoc, append-nil}
 use mathlib.Core.Logic.{⊎-elim}
 use Prim.Native.Nat.{ℕ, zero, suc, _+_, _-_, _*_, _/_, _%_, _^_, _≤_, _<_}
-use native.Mathlib.Nat.{pow-suc}
+use native.Mathlib.Nat.{pow-suc, mul-assoc}
 use native.Mathlib.Omega.{arith}
 use lib.Dec.{ltb}
 use lib.ListN.{length, length-drop, getD, take, drop}
@@ -117,3 +117,22 @@ read-written k n p q h =
     let e : k ≡ k + 0 = omega arith in
     let v : 0 * 16 ^ k + n ≡ n = omega arith in
     ap (λ (j : ℕ). fieldOf s (length p) j 0) e ∙ read-digits k 0 n 0 p q h ∙ done-zero s (length p + k) (0 * 16 ^ k + n) ∙ ap Value v
+
+-- ---- fields side by side
+
+-- The digits of two fields, the second of k digits, are those of one number.
+pub digits-joined : (j k m n : ℕ) → n < 16 ^ k → digits (j + k) (m * 16 ^ k + n) ≡ digits j m ++ digits k n
+unfolding digits
+digits-joined j zero m n h =
+    let e : j + 0 ≡ j = omega arith in
+    let f : m * 1 + n ≡ m = omega arith in
+    ap (λ (i : ℕ). digits i (m * 16 ^ 0 + n)) e ∙ ap (digits j) f ∙ sym (append-nil (digits j m))
+digits-joined j (suc k) m n h =
+    let p : 16 ^ suc k ≡ 16 ^ k * 16 = pow-suc 16 k in
+    let a : m * (16 ^ k * 16) ≡ m * 16 ^ k * 16 = sym (mul-assoc m (16 ^ k) 16) in
+    let e : j + suc k ≡ suc (j + k) = omega arith in
+    let q : (m * 16 ^ suc k + n) / 16 ≡ m * 16 ^ k + n / 16 = ap (λ (x : ℕ). (m * x + n) / 16) p ∙ omega arith in
+    let r : (m * 16 ^ suc k + n) % 16 ≡ n % 16 = ap (λ (x : ℕ). (m * x + n) % 16) p ∙ omega arith in
+    let l : n / 16 < 16 ^ k = omega arith in
+    ap (λ (i : ℕ). digits i (m * 16 ^ suc k + n)) e
+    ∙ rw (q, r, digits-joined j k m (n / 16) l) (append-assoc (digits j m) (digits k (n / 16)) (glyphOf (n % 16) ∷ []))

@@ -1,4 +1,5 @@
--- fmin and fmax: of two numbers they give one, bit for bit, that bounds both; a NaN gives way to the other operand; and both are monotone.
+-- fmin and fmax: of two numbers they give one, bit for bit, that bounds both; a NaN gives way to the other operand; both are monotone, and
+-- of whole numbers both give a whole one.
 -- The one idea: past the NaNs both choose by one order, fmax the other way round, so that each law is proved once for both. What holds of
 -- them to the bit, the two zeros among it, stands in `Lattice`. Over every format. Assumes nothing.
 use mathlib.Core.Path.{_≡_, ap, _∙_}
@@ -7,8 +8,9 @@ use mathlib.Core.Logic.{_⊎_, ⊎-elim}
 use Prim.Native.Nat.{ℕ}
 use native.Mathlib.Omega.{arith}
 use Rattle.float_format.specs.Format.{Format, isNan, quieted}
-use Rattle.float_format.specs.Number.{AtMost}
+use Rattle.float_format.specs.Number.{AtMost, isIntegral}
 use Rattle.float_format.proofs.Order.{at-most-trans}
+use Rattle.float_format.proofs.Integers.{integer-number}
 use Rattle.ordering.specs.Ordering.{before, earlier, later, pastNans, fmin, fmax}
 use Rattle.ordering.proofs.Firsts.{key-order, earlier-key, later-key, either}
 
@@ -99,3 +101,15 @@ pub fmax-mono : (f : Format) (x y x′ y′ : ℕ) → Numbers f x y → Numbers
     → AtMost f (fmax f x y) (fmax f x′ y′)
 fmax-mono f x y x′ y′ n n′ h k =
     first-mono f x′ y′ x y n′ n (AtLeast f) (λ a b c l m. at-most-trans f c b a m l) (fmax f x′ y′) (fmax f x y) (fmax-first f x′ y′) (fmax-first f x y) h k
+
+-- ---- of two whole numbers, a whole number
+
+module _ (f : Format) (x y : ℕ) (hx : isIntegral f x ≡ true) (hy : isIntegral f y ≡ true) where
+  first-integral : (R : ℕ → ℕ → Type 0) (r : ℕ) → First f R x y r → isIntegral f r ≡ true
+  first-integral R r c = ⊎-elim (λ e. rw e hx) (λ e. rw e hy) (c .operand (integer-number f x hx) (integer-number f y hy))
+
+  pub fmin-integral : isIntegral f (fmin f x y) ≡ true
+  fmin-integral = first-integral (AtMost f) (fmin f x y) (fmin-first f x y)
+
+  pub fmax-integral : isIntegral f (fmax f x y) ≡ true
+  fmax-integral = first-integral (AtLeast f) (fmax f x y) (fmax-first f x y)

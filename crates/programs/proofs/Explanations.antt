@@ -9,7 +9,7 @@ use Rattle.recipe.specs.Text.{short, longest, readText}
 use Rattle.recipe.specs.Text as text
 use Rattle.recipe.proofs.Laws.{read-formed}
 use Rattle.semantics.specs.declared.ExplainAnswer.{ExplainAnswer}
-use Rattle.semantics.specs.Sheet.{Sheet, longestSheet, sheetOf}
+use Rattle.semantics.specs.Shown.{Shown, longestSheet, sheetOf}
 use Rattle.semantics.specs.Explain.{Explained, passed, explained, refused, onText, explainOf, answerOf}
 use Rattle.semantics.proofs.Explaining.{Tied, both-pass, named, before, explains-text}
 use Rattle.programs.specs.Output.{refusalLine, lookedAt}
@@ -42,8 +42,8 @@ module _ (t : List ℕ) where
     unfolding explainOutput lineOf
     line-named z h = pick beside-sheet e
       where
-        pick : {s : Sheet} {x : Explained} → Tied s x → a ≡ answerOf x → fieldsLine (a .step) (a .operand) (a .reason) ≡ lineOf x
-        pick (both-pass rs) f = absurd (h (ap (λ (y : ExplainAnswer). y .reason) f))
+        pick : {s : Shown} {x : Explained} → Tied s x → a ≡ answerOf x → fieldsLine (a .step) (a .operand) (a .reason) ≡ lineOf x
+        pick (both-pass rs ms) f = absurd (h (ap (λ (y : ExplainAnswer). y .reason) f))
         pick (named number k o c l m p) f = rw f
         pick (before number k l m) f = absurd (omega (arith, ap (λ (y : ExplainAnswer). y .refusal) f))
 
@@ -51,8 +51,8 @@ module _ (t : List ℕ) where
     unfolding explainOutput lineOf
     line-passed z h = pick beside-sheet e
       where
-        pick : {s : Sheet} {x : Explained} → Tied s x → a ≡ answerOf x → passedLine ≡ lineOf x
-        pick (both-pass rs) f = refl
+        pick : {s : Shown} {x : Explained} → Tied s x → a ≡ answerOf x → passedLine ≡ lineOf x
+        pick (both-pass rs ms) f = refl
         pick (named number k o c l m p) f = absurd (omega (arith, ap (λ (y : ExplainAnswer). y .reason) f))
         pick (before number k l m) f = absurd (omega (arith, ap (λ (y : ExplainAnswer). y .refusal) f))
 

@@ -14,7 +14,7 @@ use Rattle.recipe.specs.Text as text
 use Rattle.recipe.proofs.Laws.{read-formed, refusal-positive}
 use Rattle.semantics.specs.declared.SheetAnswer.{SheetAnswer}
 use Rattle.semantics.specs.Range.{Range}
-use Rattle.semantics.specs.Sheet.{Sheet, passed, refused, sheetLine, longestSheet, sheetOf, answerOf, linesFrom, bytesOf}
+use Rattle.semantics.specs.Shown.{Shown, shown, refused, sheetLine, longestSheet, sheetOf, answerOf, linesFrom, bytesOf}
 use Rattle.semantics.proofs.Calls.{sheet-refused, sheet-read, sheet-reached}
 use Rattle.semantics.proofs.SheetLines.{length-lines}
 use Rattle.programs.specs.Output.{refusalLine, lookedAt}
@@ -35,9 +35,9 @@ module _ (t : List ℕ) where
       refused-sheet number place (refusal-positive short t number place e) (sheet-refused t longestSheet number place e)
 
   -- Any other gives the sheet's lines.
-  pub passed-sheet : (l : List Range) → sheetOf t longestSheet ≡ passed l → sheetOutput t ≡ linesFrom 0 l
+  pub passed-sheet : (l : List Range) (ms : List Bool) → sheetOf t longestSheet ≡ shown l ms → sheetOutput t ≡ linesFrom 0 l ms
   unfolding sheetOutput onSheet
-  passed-sheet l e = rw (e, drop-nil, append-nil)
+  passed-sheet l ms e = rw (e, drop-nil, append-nil)
 
 -- ---- room for the longest sheet
 
@@ -54,15 +54,15 @@ enough-room t room h = by-text t room h (readText short t) refl
 -- ---- the memory that the sheet call was lent
 
 -- the bytes after a sheet's lines stay
-pub rest-stays : (x : Sheet) (lent : List ℕ) → Untouched (answerOf x .steps * sheetLine) lent (bytesOf x lent)
-rest-stays (passed l) lent =
+pub rest-stays : (x : Shown) (lent : List ℕ) → Untouched (answerOf x .steps * sheetLine) lent (bytesOf x lent)
+rest-stays (shown l ms) lent =
     let e : sheetLine * length l ≡ length l * sheetLine = omega arith in
-    drop-at (linesFrom 0 l) (drop (sheetLine * length l) lent) (length l * sheetLine) (length-lines 0 l) ∙ ap (λ (k : ℕ). drop k lent) e
+    drop-at (linesFrom 0 l ms) (drop (sheetLine * length l) lent) (length l * sheetLine) (length-lines ms 0 l) ∙ ap (λ (k : ℕ). drop k lent) e
 rest-stays (refused number place) lent = refl
 
 -- a refused sheet changes none
-pub all-stays : (x : Sheet) (lent : List ℕ) → (answerOf x .refusal ≡ 0 → ⊥) → bytesOf x lent ≡ lent
-all-stays (passed l) lent h = absurd (h refl)
+pub all-stays : (x : Shown) (lent : List ℕ) → (answerOf x .refusal ≡ 0 → ⊥) → bytesOf x lent ≡ lent
+all-stays (shown l ms) lent h = absurd (h refl)
 all-stays (refused number place) lent h = refl
 
 -- ---- by the sheet call's answer

@@ -5,7 +5,7 @@ use mathlib.Core.List.{List, []}
 use Prim.Native.Nat.{ℕ}
 use lib.Dec.{eqb}
 use Rattle.semantics.specs.declared.SheetAnswer.{SheetAnswer}
-use Rattle.semantics.specs.Sheet.{longestSheet, sheetOf, answerOf, bytesOf}
+use Rattle.semantics.specs.Shown.{longestSheet, sheetOf, answerOf, bytesOf}
 use Rattle.programs.specs.Output.{refusalLine}
 
 -- the sheet's lines, or a refusal line

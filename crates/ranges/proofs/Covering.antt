@@ -1,52 +1,20 @@
 -- Floats carry the ranges of steps that were read as they are, so that the sheet as floats carry it is the sheet: no such range has an end that is
--- a NaN. Each step's range holds some value, as the sheet's promise says of the values before it, and a range that holds a value is one of
--- numbers. Assumes nothing.
+-- a NaN, because each holds some value (`Covered`). Assumes nothing.
 use mathlib.Core.Path.{_≡_, refl, sym, ap, _∙_}
-use mathlib.Core.Bool.{_||_, false}
 use mathlib.Core.List.{List, [], _∷_, _++_}
-use Prim.Native.Nat.{ℕ, suc, _+_}
+use Prim.Native.Nat.{ℕ, suc}
 use native.Mathlib.Omega.{arith}
-use lib.ListN.{getD}
-use mir.Syntax.{w64}
-use mir.Val.{toZ}
-use borrow.Author.Tests.{le-ltb}
-use Rattle.float_format.specs.Format.{binary64, isNan}
-use Rattle.float_format.specs.Number.{above, under}
-use Rattle.recipe.specs.declared.Kind.the-variants.{Double, Whole}
-use Rattle.recipe.specs.declared.Row.{Row}
-use Rattle.recipe.specs.declared.Row.the-variants.{Unknown, Input, Constant, Unary, Binary}
+use lib.ListN.{length}
+use lib.Seq.{getD-at}
 use Rattle.recipe.specs.declared.Step.{Step}
-use Rattle.recipe.specs.Table.{rowOf}
-use Rattle.recipe.specs.Text.{first, second, badRange, doubleAbove}
-use Rattle.semantics.specs.Value.{Datum, Outcome, stepValue}
 use Rattle.semantics.specs.Range.{Range, doubles, wholes, Ranged, ranged}
 use Rattle.semantics.specs.Range as range
-use Rattle.semantics.specs.Frame.{outside}
-use Rattle.semantics.specs.Run.{noValue}
 use Rattle.semantics.specs.Sheet.{passed, noRange, stepOn, onRanged, sheetFrom}
-use Rattle.semantics.specs.Promise.{Lies, Proper}
+use Rattle.semantics.specs.Promise.{Proper}
 use Rattle.ranges.specs.Carried.{number, carriedRange, carried, folded, stopped, carriedFrom}
 use Rattle.ranges.proofs.Folding.{step-good, step-bad, steps-done}
-use Rattle.semantics.proofs.Sound.Kept.{Kept, no-or}
-use Rattle.semantics.proofs.Sound.Inputs.{whole-constant}
-use Rattle.semantics.proofs.Sound.Steps.{step-kept}
-use Rattle.semantics.proofs.Sound.Recipes.{Covers, covers-none, covers-more, Declared}
-
--- ---- a declared range holds its low end
-
-not-above : (p : ℕ) → doubleAbove p p ≡ false
-not-above p = le-ltb (above binary64 p + under binary64 p) (above binary64 p + under binary64 p) (omega arith)
-
-low-inside : (r : Row) (t : Step) → badRange r t ≡ false → outside r t (t .p) ≡ false
-low-inside Unknown t e = refl
-low-inside (Input Double) t e =
-    let a = no-or (isNan binary64 (t .p) || isNan binary64 (t .q)) (doubleAbove (t .p) (t .q)) e in
-    let b = no-or (isNan binary64 (t .p)) (isNan binary64 (t .q)) (a .0) in
-    rw (b .0, not-above (t .p), a .1)
-low-inside (Input Whole) t e = rw (whole-constant (toZ w64 (t .p)) .from, e)
-low-inside (Constant k) t e = refl
-low-inside (Unary a k) t e = refl
-low-inside (Binary a b k) t e = refl
+use Rattle.semantics.proofs.Sound.Recipes.{Declared}
+use Rattle.semantics.proofs.Sound.Covered.{Covered, covered-none, covered-more}
 
 -- ---- a range of numbers is carried as it is
 
@@ -57,11 +25,6 @@ carried-proper (wholes l h) p = refl
 
 -- ---- the fold
 
--- values that lie in the ranges
-pub record Covered (rs : List Range) : Type 0 where
-  pub values : List Datum
-  pub covers : Covers rs values
-
 -- floats carry every range that a fold over the steps comes to, as it is
 pub data Carries : List Step → List Range → Type 0 where
   at-end : (rs : List Range) → Carries [] rs
@@ -71,22 +34,18 @@ pub data Carries : List Step → List Range → Type 0 where
 carries-from : (ls : List Step) (rs : List Range) → Declared ls → Covered rs → Carries ls rs
 carries-from [] rs d c = at-end rs
 carries-from (t ∷ ts) rs d c =
-    let v = c .covers in
-    let b : badRange (rowOf (t .opcode)) t ≡ false = d 0 (omega arith) in
-    next (stepOn t rs) refl (stepValue t (t .p) (getD (c .values) (first t) noValue) (getD (c .values) (second t) noValue))
-    (step-kept t (t .p) (getD rs (first t) noRange) (getD rs (second t) noRange) (getD (c .values) (first t) noValue) (getD (c .values) (second t) noValue)
-    (v .lie (first t)) (v .lie (second t)) (v .proper (first t)) (v .proper (second t)) b (low-inside (rowOf (t .opcode)) t b))
-    (λ r w l p. carries-from ts (rs ++ (r ∷ [])) (λ m h. d (suc m) (omega arith)) (record { values = c .values ++ (w ∷ []); covers = covers-more v r w l p }))
+    let more : (r : Range) → stepOn t rs ≡ ranged r → Covered (rs ++ (r ∷ [])) = λ r e. covered-more t rs r (d 0 (omega arith)) c e in
+    at-step t ts rs (same more (stepOn t rs) refl) (λ r e. carries-from ts (rs ++ (r ∷ [])) (λ m h. d (suc m) (omega arith)) (more r e))
   where
-    next : (x : Ranged) → stepOn t rs ≡ x → (o : Outcome) → Kept x o → ((r : Range) (v : Datum) → Lies r v → Proper r → Carries ts (rs ++ (r ∷ []))) → Carries (t ∷ ts) rs
-    next (ranged r) e o h more =
-        at-step t ts rs (ap carried e ∙ ap ranged (carried-proper r (h .proper)) ∙ sym e)
-        (λ q f. let z : r ≡ q = cc in rw z at (more r (h .value) (h .lies) (h .proper)))
-    next (range.refused number) e o h more = at-step t ts rs (ap carried e ∙ sym e) (λ q f. let z : _≡_ {A = ℕ} 0 1 = cc in absurd (omega arith))
+    same : ((r : Range) → stepOn t rs ≡ ranged r → Covered (rs ++ (r ∷ []))) → (x : Ranged) → stepOn t rs ≡ x → carried (stepOn t rs) ≡ stepOn t rs
+    same more (ranged r) e =
+        let p : Proper r = rw (getD-at rs r [] noRange (length rs) refl) at (more r e .covers .proper (length rs)) in
+        ap carried e ∙ ap ranged (carried-proper r p) ∙ sym e
+    same more (range.refused number) e = ap carried e ∙ sym e
 
 -- of steps that were read
 pub carries : (ls : List Step) → Declared ls → Carries ls []
-carries ls d = carries-from ls [] d (record { values = []; covers = covers-none })
+carries ls d = carries-from ls [] d covered-none
 
 -- ---- a fold as floats carry it is the fold
 

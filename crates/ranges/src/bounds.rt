@@ -68,7 +68,7 @@ pub fn is_infinite(x: u64) -> bool
     x % Binary64::SIGN == Binary64::INFINITY
 }
 
-fn infinite_end(low: u64, high: u64) -> bool
+pub fn infinite_end(low: u64, high: u64) -> bool
     ensures { λ r. ⌜ r ≡ infiniteEnd (doubles low high) ⌝ }
 {
     any(is_infinite(low), is_infinite(high))

@@ -1,19 +1,20 @@
 -- What a user would state of fmod, with no remainder of whole numbers in it: for finite x and y, y not zero, x is a whole number of ys and
--- the answer, which is below y in magnitude and has x's sign, and nothing else is; then infinite y, NaNs and refusal 2. Units are those of
--- `float_format`: a finite number is its sign and its units, exactly. Over every format. Assumes nothing.
+-- the answer, which is below y in magnitude and has x's sign, and nothing else is; of whole numbers it is whole; then infinite y, NaNs and
+-- refusal 2. Units are those of `float_format`: a finite number is its sign and its units, exactly. Over every format. Assumes nothing.
 use mathlib.Core.Path.{_≡_, refl, sym, ap, _∙_}
 use mathlib.Core.Bool.{Bool, true, false, not, _&&_, _||_, cond}
 use mathlib.Core.Logic.{_⊎_, inl, inr, ⊎-elim, _↔_}
 use Prim.Native.Nat.{ℕ, _+_, _*_, _/_, _%_, _≤_, _<_}
-use native.Mathlib.Nat.{div-add-mod', mod-lt, mod-le, le-antisymm, eq-zero-or-pos}
+use native.Mathlib.Nat.{div-add-mod', mod-lt, mod-le, mul-assoc, mul-add-mod-self-right, le-antisymm, eq-zero-or-pos}
 use native.Mathlib.Omega.{arith}
 use lib.Arith.{digits-mod}
 use Rattle.float_format.specs.Format.{Format, Valid, signBit, infinity, defaultNan, negative, unsigned, signed, isNan, isInfinite, isZero, quieted}
-use Rattle.float_format.specs.Number.{magnitude, encode, above, under, unitsOf}
+use Rattle.float_format.specs.Number.{magnitude, encode, one, above, under, unitsOf, isIntegral}
 use Rattle.float_format.proofs.Units.{lt-or-ge, three-way, magnitude-mono, magnitude-cancel}
 use Rattle.float_format.proofs.Patterns.{negative-signed, unsigned-signed, signed-lt, signed-parts}
 use Rattle.float_format.proofs.Integral.{quieted-lt, default-nan-lt}
 use Rattle.float_format.proofs.Order.{magnitude-zero, infinity-below-sign, above-at, under-at}
+use Rattle.float_format.proofs.Integers.{integer-units}
 use Rattle.remainder.specs.Remainder.{fmod, fmodRefusal, noRemainder}
 use Rattle.remainder.proofs.Cases.{Answers, nan-first, nan-second, no-remainder, infinite-divisor, finite-operands, either}
 use Rattle.remainder.proofs.Exact.{remainder-exact}
@@ -106,6 +107,25 @@ fmod-again f x y o =
     (record { finite-x = fmod-finite f x y o; finite-y = o .finite-y; nonzero = o .nonzero })
     (rw (is f x y o) (signed-lt f (rest f x y o) (rest-fits f x y o) (negative f x)))
     (fmod-below f x y o)
+
+-- ---- whole numbers
+
+-- the rest of a multiple of u by a multiple of u is one
+rest-multiple : (X Y R n u : ℕ) → X ≡ n * Y + R → X % u ≡ 0 → Y % u ≡ 0 → R % u ≡ 0
+rest-multiple X Y R n u e x y =
+    let m : n * Y ≡ n * (Y / u) * u = ap (λ (k : ℕ). n * k) (omega (arith, div-add-mod' Y u)) ∙ sym (mul-assoc n (Y / u) u) in
+    let s : X ≡ n * (Y / u) * u + R = omega arith in
+    sym (ap (λ (k : ℕ). k % u) s ∙ mul-add-mod-self-right (n * (Y / u)) u R) ∙ x
+
+-- Of two whole numbers, the divisor not zero, the answer is whole.
+pub fmod-integral : (f : Format) (x y : ℕ) → isIntegral f x ≡ true → isIntegral f y ≡ true → 0 < unsigned f y → isIntegral f (fmod f x y) ≡ true
+fmod-integral f x y hx hy some =
+    let wx : (unsigned f x < infinity f) × (unitsOf f x % one f ≡ 0) = integer-units f x .0 hx in
+    let wy : (unsigned f y < infinity f) × (unitsOf f y % one f ≡ 0) = integer-units f y .0 hy in
+    let o : Operands f x y = record { finite-x = wx .0; finite-y = wy .0; nonzero = some } in
+    let n : (n : ℕ) × (unitsOf f x ≡ n * unitsOf f y + unitsOf f (fmod f x y)) = fmod-exact f x y o in
+    integer-units f (fmod f x y) .1
+    (fmod-finite f x y o, rest-multiple (unitsOf f x) (unitsOf f y) (unitsOf f (fmod f x y)) (n .0) (one f) (n .1) (wx .1) (wy .1))
 
 -- ---- the other operands
 

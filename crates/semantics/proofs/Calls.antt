@@ -1,6 +1,6 @@
 -- The run and the sheet of steps, stage by stage: what they come to where they stop, and where they go on. A text adds the reading. Assumes
 -- nothing.
-use mathlib.Core.Path.{_≡_, refl, ap, _∙_}
+use mathlib.Core.Path.{_≡_, refl, ap, _∙_, sym}
 use mathlib.Core.Bool.{Bool, true, false, cond}
 use mathlib.Core.List.{List, []}
 use Prim.Native.Nat.{ℕ, _*_, _≤_, _<_}
@@ -15,8 +15,11 @@ use Rattle.semantics.specs.Frame.{Frame, words, onWords, wordsFrom, rang
 use Rattle.semantics.specs.Frame as frame
 use Rattle.semantics.specs.Range.{Range}
 use Rattle.semantics.specs.Run.{Run, refused, runFrom, onFrame, callOn, runSteps, onText, runOf}
-use Rattle.semantics.specs.Sheet.{passed, sheetLine, sheetFrom, sheetSteps, sheetOf}
+use Rattle.semantics.specs.Mark.{marksOf}
+use Rattle.semantics.specs.Sheet.{Sheet, passed, sheetFrom}
 use Rattle.semantics.specs.Sheet as sheet
+use Rattle.semantics.specs.Shown.{shown, marked, sheetLine, sheetSteps, sheetOf}
+use Rattle.semantics.specs.Shown as call
 use Rattle.semantics.proofs.Sound.Kept.{never}
 
 -- ---- the frame
@@ -117,49 +120,58 @@ module _ (t s : List ℕ) (room : ℕ) where
 
 module _ (l : List Step) (room : ℕ) where
   -- refusal 40
-  pub sheet-short : room < sheetLine * length l → sheetSteps l room ≡ sheet.refused 40 0
+  pub sheet-short : room < sheetLine * length l → sheetSteps l room ≡ call.refused 40 0
   unfolding sheetSteps
   sheet-short h = rw (lt-ltb room (sheetLine * length l) h)
 
-  -- else the fold
-  pub sheet-reached : sheetLine * length l ≤ room → sheetSteps l room ≡ sheetFrom l 0 []
+  -- else the ranges and the marks
+  pub sheet-reached : sheetLine * length l ≤ room → sheetSteps l room ≡ marked l (sheetFrom l 0 [])
   unfolding sheetSteps
   sheet-reached h = rw (le-ltb room (sheetLine * length l) h)
 
 module _ (t : List ℕ) (room : ℕ) where
   -- the reader's refusal
-  pub sheet-refused : (number place : ℕ) → readText short t ≡ text.refused number place → sheetOf t room ≡ sheet.refused number place
-  unfolding sheetOf sheet.onText
+  pub sheet-refused : (number place : ℕ) → readText short t ≡ text.refused number place → sheetOf t room ≡ call.refused number place
+  unfolding sheetOf call.onText
   sheet-refused number place e = rw e
 
   pub sheet-read : (l : List Step) → readText short t ≡ steps l → sheetOf t room ≡ sheetSteps l room
-  unfolding sheetOf sheet.onText
+  unfolding sheetOf call.onText
   sheet-read l e = rw e
 
 -- ---- as a user would state it
 
--- The sheet call, given room, shows the ranges of every recipe whose sheet is passed.
+-- The sheet call, given room, shows the ranges and the marks of every recipe whose sheet is passed.
 pub sheet-shows : (t : List ℕ) (l : List Step) (rs : List Range) (room : ℕ) → readText short t ≡ steps l → sheetFrom l 0 [] ≡ passed rs → sheetLine * length l ≤ room
-    → sheetOf t room ≡ passed rs
-sheet-shows t l rs room e g h = sheet-read t room l e ∙ sheet-reached l room h ∙ g
+    → sheetOf t room ≡ shown rs (marksOf l rs)
+unfolding marked
+sheet-shows t l rs room e g h = sheet-read t room l e ∙ sheet-reached l room h ∙ ap (marked l) g
 
 -- What is known of a sheet that the call shows.
-pub record Shows (t : List ℕ) (room : ℕ) (rs : List Range) : Type 0 where
+pub record Shows (t : List ℕ) (room : ℕ) (rs : List Range) (ms : List Bool) : Type 0 where
   pub list : List Step
   pub reads : readText short t ≡ steps list
   pub passes : sheetFrom list 0 [] ≡ passed rs
+  pub marks : ms ≡ marksOf list rs
   pub fits : sheetLine * length list ≤ room
 
 -- It passes no other recipe.
-pub sheet-passes-no-other : (t : List ℕ) (room : ℕ) (rs : List Range) → sheetOf t room ≡ passed rs → Shows t room rs
-unfolding sheetOf sheet.onText sheetSteps
-sheet-passes-no-other t room rs e = by-text (readText short t) refl e
+pub sheet-passes-no-other : (t : List ℕ) (room : ℕ) (rs : List Range) (ms : List Bool) → sheetOf t room ≡ shown rs ms → Shows t room rs ms
+unfolding sheetOf call.onText sheetSteps marked
+sheet-passes-no-other t room rs ms e = by-text (readText short t) refl e
   where
-    by-room : (l : List Step) (b : Bool) → readText short t ≡ steps l → ltb room (sheetLine * length l) ≡ b
-        → cond b (sheet.refused 40 0) (sheetFrom l 0 []) ≡ passed rs → Shows t room rs
-    by-room l true f q g = never (cc)
-    by-room l false f q g = record { list = l; reads = f; passes = g; fits = ltb-false room (sheetLine * length l) q }
+    by-fold : (l : List Step) (x : Sheet) → readText short t ≡ steps l → sheetLine * length l ≤ room → sheetFrom l 0 [] ≡ x → marked l x ≡ shown rs ms → Shows t room rs ms
+    by-fold l (passed qs) f r g e =
+        let q : qs ≡ rs = cc in
+        let m : marksOf l qs ≡ ms = cc in
+        record { list = l; reads = f; passes = g ∙ ap passed q; marks = sym m ∙ ap (marksOf l) q; fits = r }
+    by-fold l (sheet.refused number k) f r g e = never (cc)
 
-    by-text : (x : Text) → readText short t ≡ x → sheet.onText x room ≡ passed rs → Shows t room rs
+    by-room : (l : List Step) (b : Bool) → readText short t ≡ steps l → ltb room (sheetLine * length l) ≡ b
+        → cond b (call.refused 40 0) (marked l (sheetFrom l 0 [])) ≡ shown rs ms → Shows t room rs ms
+    by-room l true f q g = never (cc)
+    by-room l false f q g = by-fold l (sheetFrom l 0 []) f (ltb-false room (sheetLine * length l) q) refl g
+
+    by-text : (x : Text) → readText short t ≡ x → call.onText x room ≡ shown rs ms → Shows t room rs ms
     by-text (steps l) f g = by-room l (ltb room (sheetLine * length l)) f refl g
     by-text (text.refused number place) f g = never (cc)

@@ -1,6 +1,7 @@
 -- The explanation of a recipe and its sheet: a reason is named exactly where the sheet is refused with 20 to 22, at that step; its fact is true of
 -- the ranges of the steps before, and no fact before it in the opcode's list is. Assumes nothing.
 use mathlib.Core.Path.{_≡_, refl, sym, ap, _∙_}
+use mathlib.Core.Bool.{Bool}
 use mathlib.Core.List.{List, [], _∷_, _++_, append-assoc}
 use mathlib.Core.Logic.{⊎-elim}
 use Prim.Native.Nat.{ℕ, suc, _+_, _*_, _≤_, _<_}
@@ -12,8 +13,11 @@ use Rattle.recipe.specs.Text as text
 use Rattle.recipe.proofs.Laws.{read-refused}
 use Rattle.semantics.specs.Range.{Range, Ranged, ranged}
 use Rattle.semantics.specs.Range as range
-use Rattle.semantics.specs.Sheet.{Sheet, noRange, stepOn, onRanged, sheetFrom, sheetLine, sheetOf}
+use Rattle.semantics.specs.Mark.{marksOf}
+use Rattle.semantics.specs.Sheet.{noRange, stepOn, onRanged, sheetFrom}
 use Rattle.semantics.specs.Sheet as sheet
+use Rattle.semantics.specs.Shown.{Shown, shown, marked, sheetLine, sheetOf}
+use Rattle.semantics.specs.Shown as call
 use Rattle.semantics.specs.Cause.{Cause, causesOf, operandOf}
 use Rattle.semantics.specs.Explain.{Explained, passed, explained, refused, reasonOf, whyOn, onStep, explainFrom, explainSteps, onText, explainOf}
 use Rattle.semantics.proofs.Calls.{sheet-refused, sheet-read, sheet-reached}
@@ -22,10 +26,10 @@ use Rattle.semantics.proofs.Causes.{First, Turned, turned-down}
 -- ---- the explanation beside the sheet
 
 -- both pass; or the sheet is refused with 20 to 22 and the explanation names a reason at that step; or the text is refused, for both alike
-pub data Tied : Sheet → Explained → Type 0 where
-  both-pass : (rs : List Range) → Tied (sheet.passed rs) passed
-  named : (number k o c : ℕ) → 20 ≤ number → number ≤ 22 → 0 < c → Tied (sheet.refused number k) (explained k o c)
-  before : (number k : ℕ) → 10 ≤ number → number ≤ 17 → Tied (sheet.refused number k) (refused number k)
+pub data Tied : Shown → Explained → Type 0 where
+  both-pass : (rs : List Range) (ms : List Bool) → Tied (shown rs ms) passed
+  named : (number k o c : ℕ) → 20 ≤ number → number ≤ 22 → 0 < c → Tied (call.refused number k) (explained k o c)
+  before : (number k : ℕ) → 10 ≤ number → number ≤ 17 → Tied (call.refused number k) (refused number k)
 
 -- why the step t, turned down after steps of the ranges rs, is
 abbrev because : (k : ℕ) (t : Step) (rs : List Range) (number : ℕ) → Turned t (getD rs (first t) noRange) (getD rs (second t) noRange) number → Explained
@@ -34,22 +38,23 @@ because k t rs number d = explained k (operandOf t (d .why .names)) (d .why .cod
 why-is : (k : ℕ) (t : Step) (rs : List Range) (number : ℕ) (d : Turned t (getD rs (first t) noRange) (getD rs (second t) noRange) number) → whyOn k t rs ≡ because k t rs number d
 why-is k t rs number d = ap (reasonOf k t) (d .is)
 
-tied-from : (l : List Step) (k : ℕ) (rs : List Range) → Tied (sheetFrom l k rs) (explainFrom l k rs)
-unfolding sheetFrom explainFrom onRanged onStep
-tied-from [] k rs = both-pass rs
-tied-from (t ∷ ts) k rs = pick (stepOn t rs) refl (λ r. tied-from ts (suc k) (rs ++ (r ∷ [])))
+-- the marks, of whatever steps all, make no difference to it
+tied-from : (all l : List Step) (k : ℕ) (rs : List Range) → Tied (marked all (sheetFrom l k rs)) (explainFrom l k rs)
+unfolding sheetFrom explainFrom onRanged onStep marked
+tied-from all [] k rs = both-pass rs (marksOf all rs)
+tied-from all (t ∷ ts) k rs = pick (stepOn t rs) refl (λ r. tied-from all ts (suc k) (rs ++ (r ∷ [])))
   where
-    pick : (x : Ranged) → stepOn t rs ≡ x → ((r : Range) → Tied (sheetFrom ts (suc k) (rs ++ (r ∷ []))) (explainFrom ts (suc k) (rs ++ (r ∷ []))))
-        → Tied (onRanged x k (λ r. sheetFrom ts (suc k) (rs ++ (r ∷ [])))) (onStep x (whyOn k t rs) (λ r. explainFrom ts (suc k) (rs ++ (r ∷ []))))
+    pick : (x : Ranged) → stepOn t rs ≡ x → ((r : Range) → Tied (marked all (sheetFrom ts (suc k) (rs ++ (r ∷ [])))) (explainFrom ts (suc k) (rs ++ (r ∷ []))))
+        → Tied (marked all (onRanged x k (λ r. sheetFrom ts (suc k) (rs ++ (r ∷ []))))) (onStep x (whyOn k t rs) (λ r. explainFrom ts (suc k) (rs ++ (r ∷ []))))
     pick (ranged r) e more = more r
     pick (range.refused number) e more =
         let d = turned-down t (getD rs (first t) noRange) (getD rs (second t) noRange) number e in
         rw (why-is k t rs number d) (named number k (operandOf t (d .why .names)) (d .why .code) (d .from-20) (d .to-22) (d .coded))
 
 -- of steps
-pub explains : (l : List Step) → Tied (sheetFrom l 0 []) (explainSteps l)
+pub explains : (l : List Step) → Tied (marked l (sheetFrom l 0 [])) (explainSteps l)
 unfolding explainSteps
-explains l = tied-from l 0 []
+explains l = tied-from l l 0 []
 
 -- of a text, with room for its sheet
 pub explains-text : (t : List ℕ) (room : ℕ) → ((l : List Step) → readText short t ≡ steps l → sheetLine * length l ≤ room) → Tied (sheetOf t room) (explainOf t)

@@ -5,9 +5,13 @@ pub mod Rules
 pub mod Refused
 pub mod Causes
 pub mod Worked
+pub mod SheetWorked
+pub mod Marks
+pub mod MarkRows
 pub mod Numbers
 pub mod Laws
 pub mod Sound
+pub mod MarkLaws
 pub mod Calls
 pub mod Explaining
 pub mod Told

@@ -1,14 +1,14 @@
 -- Lists and the places of an array, as the loops of a run use them. Assumes nothing.
 use mathlib.Core.Path.{_≡_, refl, sym, _∙_}
 use mathlib.Core.Bool.{Bool, true, false}
-use mathlib.Core.List.{List, [], _∷_, _++_, map, map-append, append-assoc}
+use mathlib.Core.List.{List, [], _∷_, _++_, map, map-append, append-assoc, append-nil}
 use mathlib.Core.Logic.{_⊎_, inl, inr}
 use Prim.Native.Nat.{ℕ, zero, suc, _+_, _≤_, _<_}
 use native.Mathlib.Omega.{arith}
 use native.Mathlib.Numerals.{add-one}
 use lib.Dec.{ltb}
 use lib.ListN.{length, take, drop, set, getD, length-append, length-map, length-drop, drop-of-length-le}
-use lib.Seq.{take-suc-set, take-suc, drop-cons, getD-take, length-take-le, set-at}
+use lib.Seq.{take-suc-set, take-suc, drop-cons, getD-take, length-take-le, set-at, getD-at, take-at}
 use borrow.Author.Tests.{ltb-true, ltb-false}
 
 by-test : (m n : ℕ) (b : Bool) → ltb m n ≡ b → (m < n) ⊎ (n ≤ m)
@@ -36,6 +36,28 @@ next-of l n i d h m =
 
 pub none-left : {A : Type 0} (l : List A) (n i : ℕ) → n ≤ i → n ≤ length l → drop i (take n l) ≡ []
 none-left l n i h m = let e : length (take n l) ≡ n = length-take-le n l m in drop-of-length-le (take n l) {i = i} (omega arith)
+
+-- ---- a list that begins with another, as one does that a fold has grown at its end
+
+pub record Begins {A : Type 0} (l m : List A) : Type 0 where
+  pub rest : List A
+  pub is : m ≡ l ++ rest
+
+pub begins-all : {A : Type 0} (l : List A) → Begins l l
+begins-all l = record { rest = []; is = sym (append-nil l) }
+
+module _ {A : Type 0} (l m : List A) (x : A) (g : Begins (l ++ (x ∷ [])) m) where
+  grown : m ≡ l ++ (x ∷ g .rest)
+  grown = g .is ∙ append-assoc l (x ∷ []) (g .rest)
+
+  pub begins-less : Begins l m
+  begins-less = record { rest = x ∷ g .rest; is = grown }
+
+  -- x is at the first place after l, and l is what stands before it
+  pub begins-at : (d : A) → (getD m (length l + 0) d ≡ x) × (take (length l + 0) m ≡ l)
+  begins-at d =
+      let n : length l ≡ length l + 0 = omega arith in
+      (rw grown (getD-at l x (g .rest) d (length l + 0) n), rw grown (take-at l (x ∷ g .rest) (length l + 0) n))
 
 -- ---- a list written over another from its start on, through f
 

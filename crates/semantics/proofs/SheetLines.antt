@@ -1,38 +1,44 @@
 -- The lines of a sheet: how long they are, one more after others, and how many there are where a sheet passed and there was room for the
 -- longest. Assumes nothing.
 use mathlib.Core.Path.{_≡_, refl, ap, _∙_, sym}
+use mathlib.Core.Bool.{Bool}
 use mathlib.Core.List.{List, [], _∷_, _++_, append-nil, append-assoc}
 use Prim.Native.Nat.{ℕ, suc, _+_, _*_, _≤_}
 use native.Mathlib.Omega.{arith}
-use lib.ListN.{length, take, drop, length-append}
+use lib.ListN.{length, take, drop, getD, length-append}
 use lib.Seq.{take-at, drop-nil}
 use Rattle.hex.proofs.Digits.{length-digits}
 use Rattle.recipe.specs.declared.Step.{Step}
 use Rattle.recipe.specs.Text.{mostSteps}
 use Rattle.semantics.specs.Range.{Range, Ranged, ranged}
 use Rattle.semantics.specs.Range as range
-use Rattle.semantics.specs.Sheet.{Sheet, passed, refused, stepOn, onRanged, sheetLine, longestSheet, sheetFrom, sheetOf, answerOf, lineOf, linesFrom, bytesOf}
+use Rattle.semantics.specs.Mark.{noMark}
+use Rattle.semantics.specs.Sheet.{passed, stepOn, onRanged, sheetFrom}
+use Rattle.semantics.specs.Shown.{Shown, shown, refused, sheetLine, longestSheet, sheetOf, answerOf, lineOf, linesFrom, bytesOf}
 use Rattle.semantics.proofs.Sound.Kept.{never}
 use Rattle.semantics.proofs.Calls.{sheet-passes-no-other}
 
 -- ---- a line, and line after line
 
-pub length-line : (k : ℕ) (r : Range) → length (lineOf k r) ≡ sheetLine
-length-line k r = simp (length-append, length-digits)
+pub length-line : (k : ℕ) (m : Bool) (r : Range) → length (lineOf k m r) ≡ sheetLine
+length-line k m r = simp (length-append, length-digits)
 
-pub length-lines : (k : ℕ) (l : List Range) → length (linesFrom k l) ≡ length l * sheetLine
-unfolding linesFrom
-length-lines k [] = refl
-length-lines k (r ∷ l) = length-append (lineOf k r) (linesFrom (suc k) l) ∙ omega (arith, length-line k r, length-lines (suc k) l)
+module _ (ms : List Bool) where
+  pub length-lines : (k : ℕ) (l : List Range) → length (linesFrom k l ms) ≡ length l * sheetLine
+  unfolding linesFrom
+  length-lines k [] = refl
+  length-lines k (r ∷ l) =
+      length-append (lineOf k (getD ms k noMark) r) (linesFrom (suc k) l ms) ∙ omega (arith, length-line k (getD ms k noMark) r, length-lines (suc k) l)
 
-pub lines-more : (k : ℕ) (l : List Range) (r : Range) → linesFrom k (l ++ (r ∷ [])) ≡ linesFrom k l ++ lineOf (k + length l) r
-unfolding linesFrom
-lines-more k [] r = let e : k + 0 ≡ k = omega arith in rw e (append-nil (lineOf k r))
-lines-more k (q ∷ l) r =
-    let e : k + suc (length l) ≡ suc k + length l = omega arith in
-    ap (λ (x : List ℕ). lineOf k q ++ x) (lines-more (suc k) l r)
-    ∙ sym (append-assoc (lineOf k q) (linesFrom (suc k) l) (lineOf (suc k + length l) r))
-    ∙ rw e
+  pub lines-more : (k : ℕ) (l : List Range) (r : Range)
+      → linesFrom k (l ++ (r ∷ [])) ms ≡ linesFrom k l ms ++ lineOf (k + length l) (getD ms (k + length l) noMark) r
+  unfolding linesFrom
+  lines-more k [] r = let e : k + 0 ≡ k = omega arith in rw e (append-nil (lineOf k (getD ms k noMark) r))
+  lines-more k (q ∷ l) r =
+      let e : k + suc (length l) ≡ suc k + length l = omega arith in
+      ap (λ (x : List ℕ). lineOf k (getD ms k noMark) q ++ x) (lines-more (suc k) l r)
+      ∙ sym (append-assoc (lineOf k (getD ms k noMark) q) (linesFrom (suc k) l ms) (lineOf (suc k + length l) (getD ms (suc k + length l) noMark) r))
+      ∙ rw e
 
 -- ---- one line per step
 
@@ -48,23 +54,23 @@ unfolding sheetFrom
 from-length [] k l r e = let q : l ≡ r = cc in ap length (sym q) ∙ omega arith
 from-length (t ∷ ts) k l r e = by-ranged t ts k l r (λ x h. from-length ts (suc k) (l ++ (x ∷ [])) r h) (stepOn t l) e
 
-few : (t : List ℕ) (r : List Range) → sheetOf t longestSheet ≡ passed r → length r ≤ mostSteps
-few t r h =
-    let s = sheet-passes-no-other t longestSheet r h in
+few : (t : List ℕ) (r : List Range) (ms : List Bool) → sheetOf t longestSheet ≡ shown r ms → length r ≤ mostSteps
+few t r ms h =
+    let s = sheet-passes-no-other t longestSheet r ms h in
     let f = from-length (s .list) 0 [] r (s .passes) in
     omega (arith, s .fits)
 
 -- ---- the sheet
 
-pub record Passed (x : Sheet) : Type 0 where
+pub record Passed (x : Shown) : Type 0 where
   pub few : answerOf x .steps ≤ mostSteps
   pub lines : (lent : List ℕ) → take (answerOf x .steps * sheetLine) (bytesOf x lent) ≡ bytesOf x []
 
-passed-by : (x : Sheet) → ((r : List Range) → x ≡ passed r → length r ≤ mostSteps) → Passed x
-passed-by (passed r) h =
+passed-by : (x : Shown) → ((r : List Range) (ms : List Bool) → x ≡ shown r ms → length r ≤ mostSteps) → Passed x
+passed-by (shown r ms) h =
     record {
-      few = h r refl;
-      lines = λ lent. take-at (linesFrom 0 r) (drop (sheetLine * length r) lent) (length r * sheetLine) (length-lines 0 r) ∙ sym (ap (λ (x : List ℕ). linesFrom 0 r ++ x) (drop-nil (sheetLine * length r)) ∙ append-nil (linesFrom 0 r));
+      few = h r ms refl;
+      lines = λ lent. take-at (linesFrom 0 r ms) (drop (sheetLine * length r) lent) (length r * sheetLine) (length-lines ms 0 r) ∙ sym (ap (λ (x : List ℕ). linesFrom 0 r ms ++ x) (drop-nil (sheetLine * length r)) ∙ append-nil (linesFrom 0 r ms));
     }
 passed-by (refused number k) h = record { few = omega arith; lines = λ lent. refl }
 

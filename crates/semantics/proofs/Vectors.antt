@@ -23,8 +23,10 @@ use Rattle.semantics.specs.Frame.{onField, onWords, wordsFrom, readFrame
 use Rattle.semantics.specs.Frame as frame
 use Rattle.semantics.specs.Run.{completed, onOutcome, runFrom, onFrame, callOn, runSteps, runOf, answerOf, wordsOf}
 use Rattle.semantics.specs.Run as run
-use Rattle.semantics.specs.Sheet.{onRanged, sheetFrom, sheetSteps, onText, sheetOf, linesFrom, bytesOf}
-use Rattle.semantics.specs.Promise.{Given, Promised, Lies}
+use Rattle.semantics.specs.Mark.{markRule, marksFrom}
+use Rattle.semantics.specs.Sheet.{onRanged, sheetFrom}
+use Rattle.semantics.specs.Shown.{marked, sheetSteps, onText, sheetOf, linesFrom, bytesOf}
+use Rattle.semantics.specs.Promise.{Given, Promised, Lies, Integral}
 use Rattle.semantics.proofs.Sound.Recipes.{text-sound}
 
 -- ---- document 01's recipe: floor of an input, then lround
@@ -32,10 +34,10 @@ use Rattle.semantics.proofs.Sound.Recipes.{text-sound}
 pub recipe : List ℕ
 recipe = lines ("010000c004000000000000401d000000000000" ∷ "10000000000000000000000000000000000000" ∷ "18010000000000000000000000000000000000" ∷ [])
 
--- its sheet, and a byte past it that stays as lent
-pub sheet-example : bytesOf (sheetOf recipe 112) (lines ("" ∷ []) ++ recipe)
-    ≡ lines ("0001c004000000000000401d000000000000" ∷ "0101c008000000000000401c000000000000" ∷ "0202fffffffffffffffd0000000000000007" ∷ []) ++ bytes "000000\n"
-unfolding recipe bytes lines readText readFrom onNext nextOf judged stepRefusal inputsIn lineAt fromFields rowOf fieldOf digitOf isNan above under magnitude sheetOf onText sheetSteps sheetFrom onRanged stepRange rangeRule linesFrom digits integral parts wholePart lroundRefusal lroundValue encode isInfinite isZero quieted size span climb
+-- its sheet, and bytes past it that stay as lent
+pub sheet-example : bytesOf (sheetOf recipe 121) (recipe ++ bytes "past")
+    ≡ lines ("000100c004000000000000401d000000000000" ∷ "010101c008000000000000401c000000000000" ∷ "020201fffffffffffffffd0000000000000007" ∷ []) ++ bytes "past"
+unfolding recipe bytes lines readText readFrom onNext nextOf judged stepRefusal inputsIn lineAt fromFields rowOf fieldOf digitOf isNan above under magnitude sheetOf onText sheetSteps marked marksFrom markRule sheetFrom onRanged stepRange rangeRule linesFrom digits integral parts wholePart lroundRefusal lroundValue encode isInfinite isZero quieted size span climb
 sheet-example = refl
 
 -- its frames: -0.5 gives -1, a whole number; 7.5 is refused 32 at step 0
@@ -97,6 +99,11 @@ lie-example = (
   rw values-example at (promised-example .lie 1 (omega arith)),
   rw values-example at (promised-example .lie 2 (omega arith)),
 )
+
+-- the floor is marked, and a whole number
+pub integral-example : Integral (double 0xbff0_0000_0000_0000)
+unfolding marksFrom markRule isInfinite
+integral-example = rw values-example at (promised-example .integral 1 (omega arith) refl)
 
 -- and they are what is written, the word past them staying as lent
 pub written-example : wordsOf (runOf recipe example-frame 4) example-lent

@@ -7,7 +7,7 @@ use Prim.Native.Nat.{ℕ, _≤_, _<_}
 use lib.ListN.{length, getD, drop}
 use lib.Signed.{leZ}
 use Rattle.float_format.specs.Format.{binary64, isNan}
-use Rattle.float_format.specs.Number.{AtMost}
+use Rattle.float_format.specs.Number.{AtMost, isIntegral}
 use Rattle.recipe.specs.declared.Step.{Step}
 use Rattle.recipe.specs.Table.{kindNumber}
 use Rattle.recipe.specs.Text.{steps, short, mostSteps, readText}
@@ -17,6 +17,7 @@ use Rattle.semantics.specs.declared.RunAnswer.{RunAnswer}
 use Rattle.semantics.specs.Value.{Datum, double, whole, kindOf, wordOf}
 use Rattle.semantics.specs.Range.{Range, doubles, wholes}
 use Rattle.semantics.specs.Range as range
+use Rattle.semantics.specs.Mark.{noMark, marksOf}
 use Rattle.semantics.specs.Frame.{words, readFrame}
 use Rattle.semantics.specs.Run.{completed, noValue, runSteps, runOf, lastOf, answerOf, wordsOf}
 use Rattle.semantics.specs.Sheet.{passed, noRange, sheetFrom}
@@ -34,6 +35,11 @@ Lies (wholes low high) (whole z) = (leZ low z ≡ true) × (leZ z high ≡ true)
 unfoldable pub Proper : Range → Type 0
 Proper (doubles low high) = (isNan binary64 low ≡ false) × (isNan binary64 high ≡ false)
 Proper (wholes low high) = Unit {0}
+
+-- what a step's mark says of its value: a double is finite and has no fraction
+unfoldable pub Integral : Datum → Type 0
+Integral (double x) = isIntegral binary64 x ≡ true
+Integral (whole z) = Unit {0}
 
 -- ---- the promise
 
@@ -58,6 +64,8 @@ pub record Promised (l : List Step) (s lent : List ℕ) (rs : List Range) (r : R
   pub shown : map range.kindOf rs ≡ map text.kindOf l
   pub kinds : (k : ℕ) → k < length l → kindOf (getD values k noValue) ≡ range.kindOf (getD rs k noRange)
   pub lie : (k : ℕ) → k < length l → Lies (getD rs k noRange) (getD values k noValue)
+  -- and is a whole number where the sheet marks it so
+  pub integral : (k : ℕ) → k < length l → getD (marksOf l rs) k noMark ≡ true → Integral (getD values k noValue)
   -- the words written are these values in step order, the rest is as lent, and the last is returned
   pub written : after ≡ map wordOf values ++ drop (length l) lent
   pub returned : r ≡ record { refusal = 0; place = 0; kind = kindNumber (kindOf (lastOf values)); word = wordOf (lastOf values) }

@@ -3,7 +3,7 @@
 use recipe::MOST_STEPS;
 
 // The bytes of a sheet's line, and of the longest sheet.
-pub const SHEET_LINE: usize = 37;
+pub const SHEET_LINE: usize = 39;
 
 pub const LONGEST_SHEET: usize = MOST_STEPS * SHEET_LINE;
 

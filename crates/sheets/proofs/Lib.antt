@@ -1,3 +1,4 @@
 -- The laws of `sheets`.
 pub mod Showing
+pub mod Marking
 pub mod SheetCalls

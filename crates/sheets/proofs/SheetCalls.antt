@@ -16,11 +16,10 @@ use Rattle.recipe.specs.Answer.{Says, Holds}
 use Rattle.recipe.proofs.Packed.{steps-length, holds-words}
 use Rattle.recipe.proofs.Laws.{answer-steps, answer-count, answer-holds, answer-refused}
 use Rattle.semantics.specs.declared.SheetAnswer.{SheetAnswer}
-use Rattle.semantics.specs.Sheet.{Sheet, refused, sheetLine, sheetSteps, sheetOf, answerOf, bytesOf}
+use Rattle.semantics.specs.Shown.{Shown, refused, sheetLine, sheetSteps, sheetOf, answerOf, bytesOf}
 use Rattle.semantics.proofs.Calls as law
 use Rattle.semantics.proofs.Sound.Recipes.{declared}
-use Rattle.ranges.specs.Carried.{carriedFrom}
-use Rattle.sheets.specs.Packed.{sheetWords}
+use Rattle.sheets.specs.Packed.{carriedSheet, sheetWords}
 use Rattle.ranges.proofs.Covering.{carried-same}
 
 module _ (w : List ℕ) (room : ℕ) where
@@ -30,7 +29,7 @@ module _ (w : List ℕ) (room : ℕ) where
   sheet-bad e = rw e
 
   module _ (b : badWords (length w) ≡ false) (n : ℕ) (en : n ≡ length w / 3) where
-    whole : sheetWords w room ≡ cond (ltb room (n * sheetLine)) (refused 40 0) (carriedFrom (stepsIn w n) 0 [])
+    whole : sheetWords w room ≡ cond (ltb room (n * sheetLine)) (refused 40 0) (carriedSheet (stepsIn w n))
     unfolding sheetWords
     whole =
         let e : sheetLine * n ≡ n * sheetLine = omega arith in
@@ -41,7 +40,7 @@ module _ (w : List ℕ) (room : ℕ) where
     sheet-short h = whole ∙ rw (lt-ltb room (n * sheetLine) h)
 
     -- neither
-    pub sheet-reached : n * sheetLine ≤ room → sheetWords w room ≡ carriedFrom (stepsIn w n) 0 []
+    pub sheet-reached : n * sheetLine ≤ room → sheetWords w room ≡ carriedSheet (stepsIn w n)
     sheet-reached h = whole ∙ rw (le-ltb room (n * sheetLine) h)
 
 -- Words that hold formed steps have the sheet of these steps.
@@ -66,7 +65,7 @@ module _ (t : List ℕ) (room : ℕ) (r : Reading) (w : List ℕ) (g : Says (rea
 -- ---- the contract
 
 module _ (lent : List ℕ) (r : SheetAnswer) (after : List ℕ) where
-  abbrev Answers : Sheet → Type 0
+  abbrev Answers : Shown → Type 0
   Answers sheet = (r ≡ answerOf sheet) × (after ≡ bytesOf sheet lent)
 
   -- its first part, and the second
@@ -75,5 +74,5 @@ module _ (lent : List ℕ) (r : SheetAnswer) (after : List ℕ) where
     h,
     λ l g.
         let e = holds-sheet l w (length lent) g in
-        (h .0 ∙ ap answerOf e, h .1 ∙ ap (λ (x : Sheet). bytesOf x lent) e),
+        (h .0 ∙ ap answerOf e, h .1 ∙ ap (λ (x : Shown). bytesOf x lent) e),
   )

@@ -1,16 +1,19 @@
-// The sheet of a recipe: the range of every step (document 01, "Recipe text", "Turning text down" and "Sheet and run on paper").
+// The sheet of a recipe: the range and the mark of every step (document 01, "Recipe text", "Turning text down" and "Sheet and run on paper";
+// document 02, W-203).
 ghost use mathlib.Core.Path.{_≡_};
 ghost use mathlib.Core.List.{List, []};
-ghost use Prim.Native.Nat.{_*_, _≤_};
+ghost use Prim.Native.Nat.{_+_, _*_, _≤_, _<_};
 ghost use lib.ListN.{length};
 ghost use Rattle.recipe.specs.declared.Step.{Step};
+ghost use Rattle.recipe.specs.Table.{kindNumber};
 ghost use Rattle.recipe.specs.Text.{mostSteps};
 ghost use Rattle.recipe.specs.Packed.{stepsIn};
 ghost use Rattle.recipe.specs.Answer.{Holds};
-ghost use Rattle.semantics.specs.Sheet.{refused, sheetLine, sheetSteps, sheetOf, answerOf, lineOf, bytesOf};
+ghost use Rattle.semantics.specs.Range.{kindOf};
+ghost use Rattle.semantics.specs.Shown.{refused, sheetLine, markNumber, sheetSteps, sheetOf, answerOf, lineOf, bytesOf};
 ghost use Rattle.ranges.specs.Seen.{RealRange, seenRange};
-ghost use Rattle.ranges.specs.Carried.{carriedFrom};
-ghost use Rattle.sheets.specs.Packed.{sheetWords};
+ghost use Rattle.sheets.specs.Packed.{carriedSheet, sheetWords};
+use marks::step_mark;
 use ranges::Bound;
 use ranges::Range;
 use ranges::WholeRange;
@@ -48,25 +51,40 @@ fn refusal_at(number: u64, step: StepNumber) -> SheetAnswer
     }
 }
 
-// Fills a line: step 2 digits, kind 2, low 16, high 16, a line feed.
-fn write_line(step: usize, r: Range, line: &mut [u8])
-    requires { ⌜ (length (now line) ≡ sheetLine) × RealRange r ⌝ }
-    ensures { λ _. ⌜ now (line .exit) ≡ lineOf step (seenRange r) ⌝ }
+fn mark_number(mark: bool) -> u64
+    ensures { λ r. ⌜ r ≡ markNumber mark ⌝ }
 {
-    hex::write(step as u64, &mut line[..2]);
-    hex::write(kind_number(r.kind()) as u64, &mut line[2..4]);
-    hex::write(r.low_word(), &mut line[4..20]);
-    hex::write(r.high_word(), &mut line[20..36]);
-    line[36] = b'\n';
+    if mark { 1 } else { 0 }
+}
+
+// Step, kind and mark as one number, so that their two digits each are written together.
+fn line_head(step: usize, mark: bool, r: Range) -> u64
+    requires { ⌜ step < mostSteps ⌝ }
+    ensures { λ n. ⌜ n ≡ step * 0x1_0000 + kindNumber (kindOf (seenRange r)) * 0x100 + markNumber mark ⌝ }
+{
+    let kind = kind_number(r.kind()) as u64;
+    step as u64 * 0x1_0000 + kind * 0x100 + mark_number(mark)
+}
+
+// Fills a line: step 2 digits, kind 2, mark 2, low 16, high 16, a line feed.
+fn write_line(step: usize, mark: bool, r: Range, line: &mut [u8])
+    requires { ⌜ (length (now line) ≡ sheetLine) × (step < mostSteps) × RealRange r ⌝ }
+    ensures { λ _. ⌜ now (line .exit) ≡ lineOf step mark (seenRange r) ⌝ }
+{
+    hex::write(line_head(step, mark, r), &mut line[..6]);
+    hex::write(r.low_word(), &mut line[6..22]);
+    hex::write(r.high_word(), &mut line[22..38]);
+    line[38] = b'\n';
 }
 
 // The sheet of the first n steps; writes its lines only after the last has its range.
 fn write_sheet(steps: &[u64], n: usize, bytes: &mut [u8]) -> SheetAnswer
     requires { ⌜ (n ≤ mostSteps) × (3 * n ≤ length (now steps)) × (n * sheetLine ≤ length (now bytes)) ⌝ }
-    ensures { λ r. ⌜ (r ≡ answerOf (carriedFrom (stepsIn (now (steps .entry)) n) 0 []))
-        × (now (bytes .exit) ≡ bytesOf (carriedFrom (stepsIn (now (steps .entry)) n) 0 []) (now (bytes .entry))) ⌝ }
+    ensures { λ r. ⌜ (r ≡ answerOf (carriedSheet (stepsIn (now (steps .entry)) n)))
+        × (now (bytes .exit) ≡ bytesOf (carriedSheet (stepsIn (now (steps .entry)) n)) (now (bytes .entry))) ⌝ }
 {
     let mut ranges = [Range::Wholes(WholeRange { low: 0, high: 0 }); MOST_STEPS];
+    let mut marks = [true; MOST_STEPS];
     let mut i: usize = 0;
     while i < n {
         let t = step_at(steps, i);
@@ -78,14 +96,16 @@ fn write_sheet(steps: &[u64], n: usize, bytes: &mut [u8]) -> SheetAnswer
             Bound::Ranged(r) => r,
             Bound::Refused(number) => return refusal_at(number, StepNumber(i as u16)),
         };
+        let m = step_mark(t.opcode, r, marks[f], marks[g]);
         ranges[i] = r;
+        marks[i] = m;
         i += 1;
     }
     let mut j: usize = 0;
     while j < n {
         let r = ranges[j];
         let at = j * SHEET_LINE;
-        write_line(j, r, &mut bytes[at..at + SHEET_LINE]);
+        write_line(j, marks[j], r, &mut bytes[at..at + SHEET_LINE]);
         j += 1;
     }
     SheetAnswer {
@@ -95,10 +115,10 @@ fn write_sheet(steps: &[u64], n: usize, bytes: &mut [u8]) -> SheetAnswer
     }
 }
 
-// Writes the sheet of a recipe that was read, 37 bytes a step, and answers the number of steps. The rest of the bytes stays as lent, and so
+// Writes the sheet of a recipe that was read, 39 bytes a step, and answers the number of steps. The rest of the bytes stays as lent, and so
 // does all of it where the sheet is refused. `steps` has the recipe's steps, three words each, as the reader put them.
 //
-// Refuses, in this order: 40 where there are fewer bytes than 37 a step, at place 0; then the first step's 20 to 22 as stated for the sheet,
+// Refuses, in this order: 40 where there are fewer bytes than 39 a step, at place 0; then the first step's 20 to 22 as stated for the sheet,
 // at that step. Before these, of words that the reader gave for no text: 10 where they are not three each for 1 to 128 steps, at place 0.
 //
 // The first part of the contract speaks of any words; the second of those of formed steps, of which no range has an end that is a NaN, so

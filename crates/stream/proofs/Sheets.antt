@@ -7,7 +7,7 @@ use native.Mathlib.Omega.{arith}
 use lib.ListN.{take}
 use Rattle.recipe.specs.Text.{mostSteps}
 use Rattle.semantics.specs.declared.SheetAnswer.{SheetAnswer}
-use Rattle.semantics.specs.Sheet.{Sheet, sheetLine, longestSheet, sheetOf, answerOf, bytesOf}
+use Rattle.semantics.specs.Shown.{Shown, sheetLine, longestSheet, sheetOf, answerOf, bytesOf}
 use Rattle.semantics.proofs.SheetLines.{sheet-passed}
 use Rattle.programs.specs.Output.{refusalLine}
 use Rattle.programs.specs.Sheet.{onSheet, sheetOutput}
@@ -16,7 +16,7 @@ use Rattle.programs.proofs.Sheets.{enough-room, rest-stays, all-stays, on-refus
 
 module _ (t : List ℕ) (room : ℕ) (r : longestSheet ≤ room) (a : SheetAnswer) (e : a ≡ answerOf (sheetOf t room)) where
   answered : a ≡ answerOf (sheetOf t longestSheet)
-  answered = e ∙ ap (λ (x : Sheet). answerOf x) (enough-room t room r)
+  answered = e ∙ ap (λ (x : Shown). answerOf x) (enough-room t room r)
 
   pub sheet-refused : (a .refusal ≡ 0 → ⊥) → refusalLine (a .refusal) (a .place) ≡ sheetOutput t
   unfolding sheetOutput
@@ -42,7 +42,7 @@ module _ (t : List ℕ) (room : ℕ) (r : longestSheet ≤ room) (a : SheetAnswe
     pub sheet-written : (lent out : List ℕ) → out ≡ bytesOf (sheetOf t room) lent → take (a .steps * sheetLine) out ≡ sheetOutput t
     unfolding sheetOutput
     sheet-written lent out w =
-        ap (take (a .steps * sheetLine)) (w ∙ ap (λ (x : Sheet). bytesOf x lent) (enough-room t room r))
+        ap (take (a .steps * sheetLine)) (w ∙ ap (λ (x : Shown). bytesOf x lent) (enough-room t room r))
         ∙ ap (λ (x : SheetAnswer). take (x .steps * sheetLine) (bytesOf (sheetOf t longestSheet) lent)) answered
         ∙ sheet-passed t .lines lent
         ∙ sym (on-passed a (bytesOf (sheetOf t longestSheet) []) z)

@@ -2,7 +2,7 @@
 ghost use mathlib.Core.Path.{_≡_};
 ghost use Prim.Native.Nat.{_≤_};
 ghost use lib.ListN.{length, take};
-ghost use Rattle.semantics.specs.Sheet.{longestSheet};
+ghost use Rattle.semantics.specs.Shown.{longestSheet};
 ghost use Rattle.programs.specs.Sheet.{sheetOutput};
 ghost use Rattle.programs.specs.Stage.{Untouched};
 use super::answer::refusal_line;

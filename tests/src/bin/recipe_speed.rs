@@ -12,6 +12,7 @@ use estrenwind_tests::patterns::Random;
 use estrenwind_tests::recipes::growing::{grow, grow_sheet, Plan};
 use estrenwind_tests::recipes::reasons::{Place, FACTS};
 use estrenwind_tests::recipes::{RunCall, SheetCall};
+use estrenwind_tests::reference::recipe::{sheet, text};
 use estrenwind_tests::{interpreter, library};
 use std::array;
 use std::hint::black_box;
@@ -21,6 +22,9 @@ use std::time::Instant;
 const RECIPES: usize = 64;
 const TURNS: usize = 401;
 const STEPS: [usize; 4] = [16, 32, 64, 128];
+
+/// Bytes of the sheet of 128 steps.
+const LONGEST_SHEET: usize = sheet::LINE * text::MOST_STEPS;
 
 /// A sheet of 128 steps may take so many times the plain one's time, and a step of it so many times
 /// a step of a sheet of 16: what it takes grows with the steps and not faster.
@@ -155,7 +159,7 @@ fn turned_down_calls() -> [Vec<SheetCall>; 2] {
 
 /// The library's explanations beside its own sheets.
 fn race_explanations<const N: usize>(steps: [usize; N], calls: &[Vec<SheetCall>; N]) -> [Times; N] {
-    let mut sheet = [0; 37 * 128];
+    let mut sheet = [0; LONGEST_SHEET];
     race(
         steps,
         calls,
@@ -170,7 +174,7 @@ fn race_explanations<const N: usize>(steps: [usize; N], calls: &[Vec<SheetCall>;
 
 fn race_sheets(ordinary: bool) -> [Times; 4] {
     let calls = sheet_calls(ordinary);
-    let [mut ours, mut theirs] = [[0; 37 * 128]; 2];
+    let [mut ours, mut theirs] = [[0; LONGEST_SHEET]; 2];
     for call in calls.iter().flatten() {
         let answer = library::sheet(&call.text, &mut ours);
         let expected = interpreter::sheet(&call.text, &mut theirs);
@@ -194,7 +198,7 @@ fn print(title: &str, times: &[Times; 4]) {
     println!("           library                        plain interpreter              library /");
     println!("steps   ns a call   a step   a byte    ns a call   a step   a byte   interpreter");
     for times in times {
-        let (a_step, a_byte) = (times.steps as f64, 39.0 * times.steps as f64);
+        let (a_step, a_byte) = (times.steps as f64, (text::LINE * times.steps) as f64);
         println!(
             "{:5} {:11.0} {:8.1} {:8.2} {:12.0} {:8.1} {:8.2} {:13.2}",
             times.steps,
@@ -241,7 +245,7 @@ fn main() -> ExitCode {
     }
     let calls = turned_down_calls();
     for call in calls.iter().flatten() {
-        let refusal = library::sheet(&call.text, &mut [0; 37 * 128]).refusal;
+        let refusal = library::sheet(&call.text, &mut [0; LONGEST_SHEET]).refusal;
         assert!((20..=22).contains(&refusal), "{call}");
     }
     for times in race_explanations([3, 128], &calls) {

@@ -1,10 +1,10 @@
-//! The sheet: ranges of steps, in the machine's own arithmetic.
+//! The sheet: ranges of steps and their marks, in the machine's own arithmetic.
 
 use super::text::{parse, Step};
 use super::Refused;
 use crate::library::SheetAnswer;
 
-const LINE: usize = 37;
+const LINE: usize = 39;
 
 /// `ew_sheet` again.
 pub fn sheet(text: &[u8], sheet: &mut [u8]) -> SheetAnswer {
@@ -29,9 +29,10 @@ fn passed(text: &[u8], sheet: &mut [u8]) -> Result<usize, Refused> {
     for (place, (line, (step, range))) in lines.zip(steps.iter().zip(&ranges)).enumerate() {
         write_digits(&mut line[..2], place as u64);
         write_digits(&mut line[2..4], step.kind as u64);
-        write_digits(&mut line[4..20], range.low);
-        write_digits(&mut line[20..36], range.high);
-        line[36] = b'\n';
+        write_digits(&mut line[4..6], range.integral as u64);
+        write_digits(&mut line[6..22], range.low);
+        write_digits(&mut line[22..38], range.high);
+        line[38] = b'\n';
     }
     Ok(steps.len())
 }
@@ -43,22 +44,51 @@ fn write_digits(digits: &mut [u8], mut number: u64) {
     }
 }
 
-/// The ends, as words of the step's kind.
+/// The ends, as words of the step's kind, and the mark: whether all values are known to be integers.
 #[derive(Clone, Copy)]
 struct Range {
     low: u64,
     high: u64,
+    integral: bool,
 }
 
 impl Range {
+    /// Doubles that may have a fraction, or be infinite.
     fn of_doubles([low, high]: [f64; 2]) -> Range {
-        let (low, high) = (low.to_bits(), high.to_bits());
-        Range { low, high }
+        Range {
+            low: low.to_bits(),
+            high: high.to_bits(),
+            integral: false,
+        }
+    }
+
+    /// Doubles of which the caller knows whether they are integers.
+    fn of_integers(ends: [f64; 2], integral: bool) -> Range {
+        Range {
+            integral,
+            ..Range::of_doubles(ends)
+        }
+    }
+
+    /// What a rounding makes of a range: integers, as far as it reaches no infinity.
+    fn of_rounded(ends: [f64; 2]) -> Range {
+        let reaches_infinity = ends.iter().any(|end| end.abs() == f64::INFINITY);
+        Range::of_integers(ends, !reaches_infinity)
+    }
+
+    /// An input or a constant: an integer if it is one number without a remainder by 1. There is no
+    /// remainder of an infinity.
+    fn of_declared(ends: [f64; 2]) -> Range {
+        let [low, high] = ends;
+        Range::of_integers(ends, low == high && low % 1.0 == 0.0)
     }
 
     fn of_wholes([low, high]: [i64; 2]) -> Range {
-        let (low, high) = (low as u64, high as u64);
-        Range { low, high }
+        Range {
+            low: low as u64,
+            high: high as u64,
+            integral: true,
+        }
     }
 
     fn doubles(self) -> [f64; 2] {
@@ -83,26 +113,28 @@ fn range(step: &Step, earlier: &[Range]) -> Result<Range, u64> {
     let doubles = |place: usize| earlier[place].doubles();
     let wholes = |place: usize| earlier[place].wholes();
     let (a, b) = (step.a, step.b);
-    let each_end = |function: fn(f64) -> f64| Ok(Range::of_doubles(doubles(a).map(function)));
+    let rounded = |function: fn(f64) -> f64| Ok(Range::of_rounded(doubles(a).map(function)));
+    // Of what hands on an operand's value, or its integers among themselves.
+    let from_a = |ends| Ok(Range::of_integers(ends, earlier[a].integral));
+    let from_both = |ends| {
+        let integral = earlier[a].integral && earlier[b].integral;
+        Ok(Range::of_integers(ends, integral))
+    };
     match step.opcode {
-        0x01 | 0x02 => {
-            let (low, high) = (step.p, step.q);
-            Ok(Range { low, high })
-        }
-        0x03 | 0x04 => {
-            let (low, high) = (step.p, step.p);
-            Ok(Range { low, high })
-        }
-        0x10 => each_end(f64::floor),
-        0x11 => each_end(f64::ceil),
-        0x12 => each_end(f64::trunc),
-        0x13 => each_end(f64::round),
-        0x14 => each_end(f64::round_ties_even),
+        0x01 => Ok(Range::of_declared([step.p, step.q].map(f64::from_bits))),
+        0x02 => Ok(Range::of_wholes([step.p as i64, step.q as i64])),
+        0x03 => Ok(Range::of_declared([f64::from_bits(step.p); 2])),
+        0x04 => Ok(Range::of_wholes([step.p as i64; 2])),
+        0x10 => rounded(f64::floor),
+        0x11 => rounded(f64::ceil),
+        0x12 => rounded(f64::trunc),
+        0x13 => rounded(f64::round),
+        0x14 => rounded(f64::round_ties_even),
         0x15 => Ok(Range::of_doubles(fraction(doubles(a)))),
-        0x16 => Ok(Range::of_doubles(fabs(doubles(a)))),
+        0x16 => from_a(fabs(doubles(a))),
         0x17 => {
             let [low, high] = doubles(a);
-            Ok(Range::of_doubles([-high, -low]))
+            from_a([-high, -low])
         }
         0x18 => {
             let [low, high] = doubles(a);
@@ -110,19 +142,13 @@ fn range(step: &Step, earlier: &[Range]) -> Result<Range, u64> {
         }
         0x20 => {
             let ([a_low, a_high], [b_low, b_high]) = (doubles(a), doubles(b));
-            Ok(Range::of_doubles([
-                fmin(a_low, b_low),
-                fmin(a_high, b_high),
-            ]))
+            from_both([fmin(a_low, b_low), fmin(a_high, b_high)])
         }
         0x21 => {
             let ([a_low, a_high], [b_low, b_high]) = (doubles(a), doubles(b));
-            Ok(Range::of_doubles([
-                fmax(a_low, b_low),
-                fmax(a_high, b_high),
-            ]))
+            from_both([fmax(a_low, b_low), fmax(a_high, b_high)])
         }
-        0x22 => Ok(Range::of_doubles(fmod(doubles(a), doubles(b))?)),
+        0x22 => from_both(fmod(doubles(a), doubles(b))?),
         0x23 => Ok(Range::of_doubles(ldexp(doubles(a), wholes(b))?)),
         0x30 => {
             let ([a_low, a_high], [b_low, b_high]) = (wholes(a), wholes(b));
@@ -138,7 +164,10 @@ fn range(step: &Step, earlier: &[Range]) -> Result<Range, u64> {
         }
         _ => {
             let [low, high] = wholes(a);
-            Ok(Range::of_doubles([to_double(low)?, to_double(high)?]))
+            Ok(Range::of_integers(
+                [to_double(low)?, to_double(high)?],
+                true,
+            ))
         }
     }
 }
@@ -264,12 +293,13 @@ fn to_double(n: i64) -> Result<f64, u64> {
 #[cfg(test)]
 mod tests {
     use super::*;
-    use crate::patterns::Random;
+    use crate::patterns::{edges, Random};
     use crate::recipes::comparison::Outcome;
     use crate::recipes::faults::{damaged, SHEET_REFUSALS};
-    use crate::recipes::growing::grow;
-    use crate::recipes::SheetCall;
-    use crate::reference::recipe::Way;
+    use crate::recipes::growing::{grow, grow_marked};
+    use crate::recipes::{Draft, Line, SheetCall};
+    use crate::reference::recipe::{Kind, Way};
+    use crate::reference::{short, Class, BINARY64};
 
     fn check(call: &SheetCall) {
         let outcome = Outcome::made(call, |memory| sheet(&call.text, memory));
@@ -289,14 +319,30 @@ mod tests {
                 }
                 let plan = random.plan();
                 check(&grow(&mut random, &plan).0.sheet_call());
+                check(&grow_marked(&mut random, &plan).0.sheet_call());
                 check(&random.meeting().sheet_call());
             }
         }
     }
 
+    /// The marks of inputs and constants alone, at the numbers where integers end and begin.
+    #[test]
+    fn marks_the_numbers_that_the_reference_does() {
+        let is_number = |&x: &u64| BINARY64.classify(x) != Class::Nan;
+        let numbers: Vec<u64> = edges(&BINARY64).into_iter().filter(is_number).collect();
+        for numbers in numbers.chunks(14) {
+            let constants = numbers.iter().map(|&p| Line::constant(Kind::Double, p));
+            let zeros = [[0, 1 << 63], [1 << 63, 0]].into_iter();
+            let inputs = zeros.chain(numbers.iter().map(|&p| [p, p]));
+            let inputs = inputs.map(|ends| Line::input(Kind::Double, ends));
+            let lines = inputs.chain(constants).collect();
+            let words = vec![];
+            check(&Draft { lines, words }.sheet_call());
+        }
+    }
+
     #[test]
     fn scales_as_the_reference_does() {
-        use crate::reference::{short, Class, BINARY64};
         let mut random = Random::new(33);
         for _ in 0..400_000 {
             let x = random.pattern(&BINARY64);

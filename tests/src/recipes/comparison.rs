@@ -127,7 +127,7 @@ mod tests {
         const BEFORE: usize = SheetCall::BEFORE;
         let call = SheetCall {
             text: b"040000000000000000002a0000000000000000\n".to_vec(),
-            lent: 39,
+            lent: 41,
         };
         every_difference_is_told(
             &call,
@@ -137,9 +137,11 @@ mod tests {
                 |outcome| outcome.answer.steps += 1,
                 |outcome| outcome.memory[BEFORE - 1] += 1,
                 |outcome| outcome.memory[BEFORE] += 1,
-                |outcome| outcome.memory[BEFORE + 36] += 1,
-                |outcome| outcome.memory[BEFORE + 37] += 1,
+                // The mark, the line feed, the rest of the memory, and what is behind it.
+                |outcome| outcome.memory[BEFORE + 5] ^= 1,
+                |outcome| outcome.memory[BEFORE + 38] += 1,
                 |outcome| outcome.memory[BEFORE + 39] += 1,
+                |outcome| outcome.memory[BEFORE + 41] += 1,
             ],
         );
     }

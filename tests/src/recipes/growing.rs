@@ -121,6 +121,10 @@ trait Known: Copy {
     fn of_input(range: [u64; 2], word: u64) -> Self;
     /// Of a step on two others, or the number of its refusal.
     fn of_step(function: &Function, a: Self, b: Self) -> Result<Self, u64>;
+    /// A value for a constant.
+    fn constant(random: &mut Random, kind: Kind) -> u64 {
+        random.value(kind)
+    }
     /// A range for an input to declare.
     fn range(random: &mut Random, kind: Kind) -> [u64; 2];
     /// Whether it is a range of a single number. What stands on such ranges is one too, so few of
@@ -172,7 +176,45 @@ impl Known for Range {
     }
 
     fn is_narrow(&self, kind: Kind) -> bool {
-        kind.compare(Way::Short, self.low, self.high).is_eq()
+        self.is_one_number(Way::Short, kind)
+    }
+}
+
+/// The range, in recipes whose sheets have many marks: what is declared is often an integer, and
+/// often infinite, which is where a rounding lacks the mark.
+#[derive(Clone, Copy)]
+struct OfIntegers(Range);
+
+impl Known for OfIntegers {
+    fn of_word(word: u64) -> OfIntegers {
+        OfIntegers(Range::of_word(word))
+    }
+
+    fn of_input(range: [u64; 2], word: u64) -> OfIntegers {
+        OfIntegers(Range::of_input(range, word))
+    }
+
+    fn of_step(function: &Function, a: OfIntegers, b: OfIntegers) -> Result<OfIntegers, u64> {
+        Range::of_step(function, a.0, b.0).map(OfIntegers)
+    }
+
+    fn constant(random: &mut Random, kind: Kind) -> u64 {
+        match kind {
+            Kind::Double if random.below(4) != 0 => random.integral(),
+            _ => random.value(kind),
+        }
+    }
+
+    fn range(random: &mut Random, kind: Kind) -> [u64; 2] {
+        match (kind, random.below(8)) {
+            (Kind::Double, 0..=2) => random.one_number(),
+            (Kind::Double, 3 | 4) => random.range_to_infinity(),
+            _ => random.declared_range(kind),
+        }
+    }
+
+    fn is_narrow(&self, kind: Kind) -> bool {
+        self.0.is_narrow(kind)
     }
 }
 
@@ -199,8 +241,13 @@ pub fn grow_sheet(random: &mut Random, plan: &Plan) -> (Draft, Vec<(usize, u64)>
     grow_along::<Range>(random, plan, &[])
 }
 
-/// The same around these lines, which come first at their places. What a line gives that is refused
-/// is made up.
+/// The same with many marks on the sheet: over many recipes, at least a third of the doubles.
+pub fn grow_marked(random: &mut Random, plan: &Plan) -> (Draft, Vec<(usize, u64)>) {
+    grow_along::<OfIntegers>(random, plan, &[])
+}
+
+/// `grow_sheet` around these lines, which come first at their places. What a line gives that is
+/// refused is made up.
 pub fn grow_sheet_around(random: &mut Random, plan: &Plan, lines: &[(usize, Line)]) -> Draft {
     grow_along::<Range>(random, plan, lines).0
 }
@@ -258,7 +305,7 @@ impl<K: Known> Growing<'_, K> {
         if self.ordinary {
             self.random.ordinary(kind)
         } else {
-            self.random.value(kind)
+            K::constant(self.random, kind)
         }
     }
 
@@ -491,6 +538,42 @@ mod tests {
                 !is_constant,
                 "{opcode:x}: {wide} of {count}"
             );
+        }
+    }
+
+    /// Of every opcode that may or may not have the mark there are steps with it and without.
+    #[test]
+    fn a_third_of_the_doubles_of_marked_recipes_are_marked() {
+        let mut random = Random::new(21);
+        let mut met: BTreeMap<(u8, bool), u64> = BTreeMap::new();
+        let (mut marked, mut doubles) = (0, 0);
+        for _ in 0..3_000 {
+            let plan = random.plan();
+            let (draft, _) = grow_marked(&mut random, &plan);
+            let call = draft.sheet_call();
+            let shown = sheet(Way::Short, &call.text, call.lent);
+            let shown = shown.unwrap_or_else(|refusal| panic!("{refusal:?}\n{call}"));
+            for (line, shown) in draft.lines.iter().zip(&shown) {
+                *met.entry((line.opcode, shown.mark)).or_default() += 1;
+                doubles += (shown.kind == Kind::Double) as u64;
+                marked += (shown.kind == Kind::Double && shown.mark) as u64;
+            }
+            let run = draft.run_call();
+            assert!(run_of(Way::Short, &run.text, &run.frame, run.lent).is_ok());
+        }
+        println!("{marked} of {doubles}: {met:?}");
+        assert!(3 * marked >= doubles, "{marked} of {doubles}");
+        for operation in &OPERATIONS {
+            for mark in [false, true] {
+                let count = met.get(&(operation.opcode, mark)).copied().unwrap_or(0);
+                let can_be = match operation.opcode {
+                    0x02 | 0x04 | 0x18 | 0x30 | 0x31 | 0x32 => mark,
+                    0x15 | 0x23 => !mark,
+                    _ => true,
+                };
+                let enough = if can_be { count >= 200 } else { count == 0 };
+                assert!(enough, "{:02x}, {mark}: {count}", operation.opcode);
+            }
         }
     }
 

@@ -4,9 +4,9 @@
 //! `growing` makes valid recipes along a frame or along ranges, `values` the constants, ranges and
 //! inputs in them, and `faults` damages them: one fault or two, each at the first, some or the last
 //! place. `lines` makes frame lines, whole and damaged, and `reasons` recipes that are turned down
-//! for chosen reasons. `comparison` holds what the library makes of a call beside what the reference
-//! does, and `walks` is what all calls are tried on. `zeros` holds the rule of W-202 for the zeros
-//! in fmin and fmax beside document 01's.
+//! for chosen reasons. `shown` reads a sheet's lines back. `comparison` holds what the library makes
+//! of a call beside what the reference does, and `walks` is what all calls are tried on. `zeros` holds
+//! the rule of W-202 for the zeros in fmin and fmax beside document 01's.
 
 pub mod calls;
 pub mod comparison;
@@ -15,6 +15,7 @@ pub mod growing;
 pub mod limits;
 pub mod lines;
 pub mod reasons;
+pub mod shown;
 pub mod values;
 pub mod walks;
 pub mod zeros;
@@ -205,7 +206,7 @@ mod tests {
         assert_eq!(call.frame, b"bfe0000000000000");
         assert_eq!((call.lent, draft.inputs()), (3, vec![0]));
         let call = draft.sheet_call();
-        assert_eq!((&call.text[..], call.lent), (text.as_bytes(), 111));
+        assert_eq!((&call.text[..], call.lent), (text.as_bytes(), 3 * 39));
         assert_eq!(draft.explain_call().text, text.as_bytes());
     }
 }

@@ -59,6 +59,23 @@ const DOUBLES: [u64; 22] = [
     0xfff0000000000000,
 ];
 
+/// Doubles that are integers, where that changes: the zeros, ones, the last numbers with others
+/// between them and the next integer, the first without, the largest.
+const INTEGERS: [f64; 12] = [
+    0.0,
+    -0.0,
+    1.0,
+    -1.0,
+    4503599627370495.0, // 2^52 - 1
+    4503599627370496.0,
+    -4503599627370497.0,
+    9007199254740991.0, // 2^53 - 1
+    -9007199254740992.0,
+    9007199254740994.0,
+    f64::MAX,
+    f64::MIN,
+];
+
 /// A number that orders the words of a kind as their values: a double's rank, or the whole number.
 fn rank(kind: Kind, word: u64) -> i64 {
     match kind {
@@ -118,6 +135,44 @@ impl Random {
                 5 => self.within(-2200..2201) as u64,
                 _ => (self.word() as i64 >> self.below(64)) as u64,
             },
+        }
+    }
+
+    /// A double that is finite and integral, most of them small: an edge, a number as hosts have
+    /// them, one of any size up to 2^53, or one beyond, where every double is.
+    pub fn integral(&mut self) -> u64 {
+        let integer = match self.below(8) {
+            0 | 1 => self.one_of(&INTEGERS),
+            2..=5 => self.within(-70..71) as f64,
+            6 => (self.word() as i64 >> (10 + self.below(54))) as f64,
+            _ => {
+                let field = 1023 + 52 + self.below(12);
+                f64::from_bits(self.in_field(&BINARY64, field))
+            }
+        };
+        integer.to_bits()
+    }
+
+    /// One number for an input to declare, as two ends: zero, integral, any, or an infinity. Of a
+    /// zero, each end is either.
+    pub fn one_number(&mut self) -> [u64; 2] {
+        let word = match self.below(8) {
+            0 => 0,
+            1..=4 => self.integral(),
+            5 | 6 => self.value(Kind::Double),
+            _ => BINARY64.infinity() | (self.word() & BINARY64.sign_bit()),
+        };
+        [word; 2].map(|end| self.of_rank(Kind::Double, rank(Kind::Double, end)))
+    }
+
+    /// The ends of a range of doubles that reaches an infinity, or both.
+    pub fn range_to_infinity(&mut self) -> [u64; 2] {
+        let infinity = BINARY64.infinity();
+        let [lowest, highest] = [BINARY64.negate(infinity), infinity];
+        match self.below(4) {
+            0 => [lowest, highest],
+            1 => [lowest, self.value(Kind::Double)],
+            _ => [self.value(Kind::Double), highest],
         }
     }
 
@@ -346,6 +401,31 @@ mod tests {
             assert!(ends > 2000 && beside > 2000, "{ends} {beside}");
             assert!(kind == Kind::Whole || nans > 2000, "{nans}");
         }
+    }
+
+    #[test]
+    fn integers_and_single_numbers_are_what_they_say() {
+        let mut random = Random::new(20);
+        let (mut beyond, mut zeros, mut ends) = (0, [0; 2], [0; 4]);
+        for _ in 0..20_000 {
+            let word = random.integral();
+            let double = f64::from_bits(word);
+            assert!(double.is_finite() && double.fract() == 0.0, "{double:e}");
+            beyond += (double.abs() >= 9007199254740992.0) as u64;
+            zeros[0] += (word == 0) as u64;
+            zeros[1] += (word == BINARY64.sign_bit()) as u64;
+            let [low, high] = random.one_number();
+            assert!(Kind::Double.compare(Way::Exact, low, high).is_eq());
+            let double = f64::from_bits(low);
+            ends[0] += (double.is_finite() && double.fract() == 0.0) as u64;
+            ends[1] += (double.fract() != 0.0) as u64;
+            ends[2] += double.is_infinite() as u64;
+            // The two zeros.
+            ends[3] += (low != high) as u64;
+        }
+        assert!(beyond > 2000, "{beyond}");
+        assert!(zeros.iter().all(|&n| n > 300), "{zeros:?}");
+        assert!(ends.iter().all(|&n| n > 300), "{ends:?}");
     }
 
     #[test]

@@ -1,6 +1,7 @@
-//! Whole numbers of 64 bits: their sums, and the doubles that they are.
+//! Whole numbers of 64 bits: their sums, and the doubles that they are; and which doubles are
+//! integers, of any size.
 
-use super::format::Format;
+use super::format::{Class, Format};
 use super::natural::Natural;
 use crate::answer::Answer;
 
@@ -30,4 +31,19 @@ pub fn to_double(format: &Format, a: i64) -> Answer {
     let sign = if a < 0 { format.sign_bit() } else { 0 };
     let units = &Natural::from(magnitude) << format.one_log2();
     Answer::word(sign | format.encode(&units))
+}
+
+/// Whether x is finite and an integer: so many ones, in units, and no rest.
+///
+/// Special cases are:
+/// - zeros are integers
+/// - infinities and NaNs are not
+pub fn is_finite_and_integral(format: &Format, x: u64) -> bool {
+    match format.classify(x) {
+        Class::Nan | Class::Infinite => false,
+        Class::Zero | Class::Subnormal | Class::Normal => {
+            let (_, rest) = format.magnitude(x).div_rem_power_of_two(format.one_log2());
+            rest.is_zero()
+        }
+    }
 }

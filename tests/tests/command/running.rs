@@ -79,7 +79,7 @@ fn the_examples() {
             }
         }
     }
-    assert!(count >= 11, "{count} examples");
+    assert!(count >= 12, "{count} examples");
 }
 
 #[test]

@@ -7,16 +7,16 @@ use estrenwind_tests::library::{self, ExplainAnswer, SheetAnswer};
 use estrenwind_tests::patterns::Random;
 use estrenwind_tests::recipes::limits::{TWO_53, TWO_63};
 use estrenwind_tests::recipes::walks::bytes;
-use estrenwind_tests::recipes::{Call, ExplainCall, SheetCall};
+use estrenwind_tests::recipes::{shown, Call, ExplainCall, SheetCall};
+use estrenwind_tests::reference::recipe::{sheet, text};
 use std::collections::BTreeMap;
 use std::ops::RangeInclusive;
 
 const SEEDS: u64 = 400;
 
-const RECIPE_LINE: usize = 39;
-const SHEET_LINE: usize = 37;
+const RECIPE_LINE: usize = text::LINE;
 /// Enough for every sheet.
-const ROOM: usize = 128 * SHEET_LINE;
+const ROOM: usize = text::MOST_STEPS * sheet::LINE;
 
 /// The number that stands in these columns of a line.
 fn number(line: &[u8], columns: std::ops::Range<usize>) -> u64 {
@@ -129,12 +129,9 @@ fn compared(text: &[u8]) -> Result<u64, String> {
     {
         return wrong("the earlier steps are refused");
     }
-    let ends = |step: u64| {
-        let line = &memory[SHEET_LINE * step as usize..][..SHEET_LINE];
-        [4..20, 20..36].map(|columns| number(line, columns))
-    };
+    let earlier = shown::read(&memory[..sheet::LINE * step as usize]);
     // A field that isn't used is zero, and step 0 is there.
-    let (a, b) = (ends(a), ends(b));
+    let [a, b] = [a, b].map(|operand| earlier[operand as usize].ends());
     let first = codes(opcode).find(|&code| is_true(opcode, code, a, b));
     match first == Some(reason) {
         true => Ok(reason),

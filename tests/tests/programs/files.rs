@@ -68,7 +68,7 @@ fn the_examples() {
             found += 1;
         }
     }
-    assert_eq!(found, 8);
+    assert_eq!(found, 9);
 }
 
 /// Bytes of all values, among which line feeds and digits are common or not.

@@ -4,6 +4,7 @@
 use crate::{EXPLAIN, RUN, SHEET};
 use estrenwind_tests::patterns::Random;
 use estrenwind_tests::recipes::faults::{damaged, EXPLAIN_REFUSALS};
+use estrenwind_tests::recipes::growing::grow_marked;
 use estrenwind_tests::recipes::reasons::{FACTS, PLACES};
 use estrenwind_tests::recipes::{frame, Call, ExplainCall, RunCall, SheetCall};
 use estrenwind_tests::reference::recipe::{text, Step, Way};
@@ -100,6 +101,29 @@ fn runs() {
         let found = counts.get(&number).copied().unwrap_or_default();
         assert!(found >= least, "{number} came up {found} times: {counts:?}");
     }
+}
+
+/// How often each pair of kind and mark is on the lines of a sheet.
+fn count_marks(sheet: &[u8], counts: &mut BTreeMap<[u8; 4], u64>) {
+    for line in sheet.split_inclusive(|&byte| byte == b'\n') {
+        let kind_and_mark = line[2..6].try_into().expect("four digits");
+        *counts.entry(kind_and_mark).or_default() += 1;
+    }
+}
+
+#[test]
+fn sheets_with_many_marks() {
+    let mut random = Random::new(64);
+    let mut counts = BTreeMap::new();
+    for _ in 0..400 {
+        let plan = random.plan();
+        let (draft, _) = grow_marked(&mut random, &plan);
+        let output = SHEET.check(Way::Short, &draft.sheet_call().text);
+        count_marks(&output, &mut counts);
+    }
+    let kinds_and_marks: Vec<[u8; 4]> = counts.keys().copied().collect();
+    assert_eq!(kinds_and_marks, [*b"0100", *b"0101", *b"0201"]);
+    assert!(counts.values().all(|&count| count >= 1_000), "{counts:?}");
 }
 
 #[test]

@@ -1,4 +1,4 @@
-//! Files written out, with answers read off document 01 and requests W-202 and W-205 by hand.
+//! Files written out, with answers read off document 01 and requests W-202, W-203 and W-205 by hand.
 
 use crate::{EXPLAIN, OF_RECIPES, RUN, SHEET};
 
@@ -9,9 +9,9 @@ pub const EXAMPLE: &str = "\
 ";
 
 const SHEET_OF_EXAMPLE: &str = "\
-0001c004000000000000401d000000000000
-0101c008000000000000401c000000000000
-0202fffffffffffffffd0000000000000007
+000100c004000000000000401d000000000000
+010101c008000000000000401c000000000000
+020201fffffffffffffffd0000000000000007
 ";
 
 /// The example up to infinity: lround, at step 2, is refused for the high end of floor's range.
@@ -50,8 +50,8 @@ fn the_zeros_in_fmin_and_fmax() {
     // From +0 to 2, and from -0 to 3.
     let inputs = "01000000000000000000004000000000000000\n\
                   01000080000000000000004008000000000000\n";
-    let ranges = "000100000000000000004000000000000000\n\
-                  010180000000000000004008000000000000\n";
+    let ranges = "00010000000000000000004000000000000000\n\
+                  01010080000000000000004008000000000000\n";
     let frames = "00000000000000008000000000000000\n\
                   80000000000000000000000000000000\n";
     for (step, range, answer) in [
@@ -77,10 +77,59 @@ fn the_zeros_in_fmin_and_fmax() {
         ),
     ] {
         let recipe = format!("{inputs}{step}{:032}\n", 0);
-        SHEET.prints(&recipe, &format!("{ranges}0201{range}\n"));
+        SHEET.prints(&recipe, &format!("{ranges}020100{range}\n"));
         EXPLAIN.prints(&recipe, "00\n");
         RUN.prints(format!("{recipe}\n{frames}"), &answer.repeat(2));
     }
+}
+
+/// W-203: "Each range gains a mark, 01 or 00, shown after the kind".
+#[test]
+fn marks() {
+    let (recipe, sheet): (String, String) = [
+        // From +0 to -0, one number; 1.5; infinity.
+        (
+            "01000000000000000000008000000000000000\n",
+            "00010100000000000000008000000000000000\n",
+        ),
+        (
+            "0300003ff80000000000000000000000000000\n",
+            "0101003ff80000000000003ff8000000000000\n",
+        ),
+        (
+            "0300007ff00000000000000000000000000000\n",
+            "0201007ff00000000000007ff0000000000000\n",
+        ),
+        // The zeros' fmin with infinity; its floor, negated; the fraction of that.
+        (
+            "20000200000000000000000000000000000000\n",
+            "03010000000000000000008000000000000000\n",
+        ),
+        (
+            "10030000000000000000000000000000000000\n",
+            "04010100000000000000008000000000000000\n",
+        ),
+        (
+            "17040000000000000000000000000000000000\n",
+            "05010100000000000000008000000000000000\n",
+        ),
+        (
+            "15050000000000000000000000000000000000\n",
+            "06010000000000000000000000000000000000\n",
+        ),
+        // As a whole number, and that as a double.
+        (
+            "18040000000000000000000000000000000000\n",
+            "07020100000000000000000000000000000000\n",
+        ),
+        (
+            "32070000000000000000000000000000000000\n",
+            "08010100000000000000000000000000000000\n",
+        ),
+    ]
+    .into_iter()
+    .unzip();
+    SHEET.prints(recipe, &sheet);
 }
 
 /// "The step, the operand's step and a reason code, two hex digits each, run together. .. A passed
@@ -317,11 +366,11 @@ fn texts_about_as_long_as_the_longest() {
         RUN.prints(&input, output);
     }
     let floors: String = (1..128)
-        .map(|step| format!("{step:02x}01c008000000000000401c000000000000\n"))
+        .map(|step| format!("{step:02x}0101c008000000000000401c000000000000\n"))
         .collect();
     SHEET.prints(
         &longest,
-        &format!("0001c004000000000000401d000000000000\n{floors}"),
+        &format!("000100c004000000000000401d000000000000\n{floors}"),
     );
     for program in OF_RECIPES {
         for input in [

@@ -2,6 +2,7 @@
 
 use estrenwind_tests::patterns::Random;
 use estrenwind_tests::recipes::faults::damaged;
+use estrenwind_tests::recipes::growing::grow_marked;
 use estrenwind_tests::recipes::{Call, RunCall};
 use estrenwind_tests::reference::natural::Natural;
 use estrenwind_tests::reference::recipe::Kind::{self, Double, Whole};
@@ -74,8 +75,8 @@ fn whole_numbers_are_the_doubles_that_stand_for_them() {
     }
 }
 
-/// Of calls with every fault, with every pair of faults, and without one; and of recipes in which
-/// zeros of both signs meet.
+/// Of calls with every fault, with every pair of faults, and without one; of recipes in which zeros of
+/// both signs meet, and of ones with many marks.
 pub fn both_ways_give_the_same<C: Call>(seed: u64) {
     let check = |call: &C| {
         let [exact, short] = [Way::Exact, Way::Short].map(|way| call.reference(way));
@@ -93,6 +94,8 @@ pub fn both_ways_give_the_same<C: Call>(seed: u64) {
     }
     for _ in 0..2_000 {
         check(&C::of(&random.meeting()));
+        let plan = random.plan();
+        check(&C::of(&grow_marked(&mut random, &plan).0));
     }
 }
 

@@ -3,14 +3,15 @@
 
 use crate::recipe::both_ways_give_the_same;
 use estrenwind_tests::patterns::Random;
-use estrenwind_tests::recipes::growing::{grow, grow_sheet};
+use estrenwind_tests::recipes::growing::{grow, grow_marked, grow_sheet};
+use estrenwind_tests::recipes::shown::is_finite_and_integral;
 use estrenwind_tests::recipes::{frame, SheetCall};
 use estrenwind_tests::reference::recipe::{run, sheet, Kind, Range, StepRange, Way, OPERATIONS};
 use estrenwind_tests::reference::BINARY64;
 
 /// A range of up to seven numbers, and all of their words: of the zeros both. It starts near a
 /// number at which a rule changes, or anywhere.
-fn small_range(random: &mut Random, kind: Kind) -> (Range, Vec<u64>) {
+pub fn small_range(random: &mut Random, kind: Kind) -> (Range, Vec<u64>) {
     let words_of = |rank: i64| match kind {
         Kind::Whole => vec![rank as u64],
         Kind::Double if rank == 0 => vec![0, BINARY64.sign_bit()],
@@ -117,10 +118,10 @@ fn where_the_rules_refuse_a_value_does() {
 #[test]
 fn every_run_of_a_passed_sheet_completes_in_its_ranges() {
     let mut random = Random::new(0x512);
-    let (mut passed, mut runs) = (0, 0);
+    let (mut passed, mut runs, mut marked) = (0, 0, 0);
     for round in 0..8_000 {
         let plan = random.plan();
-        let grow = if round % 4 == 0 { grow } else { grow_sheet };
+        let grow = [grow, grow_sheet, grow_sheet, grow_marked][round % 4];
         let (draft, _) = grow(&mut random, &plan);
         let call = draft.sheet_call();
         let Ok(ranges) = sheet(Way::Short, &call.text, call.lent) else {
@@ -135,31 +136,37 @@ fn every_run_of_a_passed_sheet_completes_in_its_ranges() {
             let values = run(Way::Short, &call.text, &frame(&words), ranges.len());
             let values = values.unwrap_or_else(|refusal| panic!("{refusal:?}\n{call}\n{words:x?}"));
             assert_eq!(values.len(), ranges.len());
-            for (value, StepRange { kind, range }) in values.iter().zip(&ranges) {
+            for (value, StepRange { kind, mark, range }) in values.iter().zip(&ranges) {
                 assert_eq!(value.kind, *kind);
                 assert!(
                     range.holds(Way::Short, *kind, value.word),
                     "{call}\n{words:x?}"
                 );
+                if *kind == Kind::Double && *mark {
+                    marked += 1;
+                    assert!(is_finite_and_integral(value.word), "{call}\n{words:x?}");
+                }
             }
             runs += 1;
         }
     }
     assert!(passed > 5_000 && runs > 40_000, "{passed} {runs}");
+    assert!(marked > 100_000, "{marked}");
 }
 
-/// "Sheet line: step 2 digits, kind 2 (01 double, 02 whole), low 16, high 16, line feed."
+/// "Sheet line: step 2 digits, kind 2 (01 double, 02 whole), low 16, high 16, line feed"; and W-203's
+/// mark, "01 or 00, shown after the kind, so a sheet line has 38 digits".
 #[test]
-fn lines_are_as_document_01_says() {
-    let mut text = b"0300003ff00000000000000000000000000000\n".repeat(127);
+fn lines_are_as_document_01_and_w_203_say() {
+    let mut text = b"0300003ff80000000000000000000000000000\n".repeat(127);
     text.extend(b"040000fffffffffffffffe0000000000000000\n");
-    let ranges = sheet(Way::Exact, &text, 37 * 128).unwrap();
+    let ranges = sheet(Way::Exact, &text, 39 * 128).unwrap();
     let bytes = sheet::bytes(&ranges);
-    assert_eq!(bytes.len(), 37 * 128);
-    assert_eq!(bytes[..37], *b"00013ff00000000000003ff0000000000000\n");
+    assert_eq!(bytes.len(), 39 * 128);
+    assert_eq!(bytes[..39], *b"0001003ff80000000000003ff8000000000000\n");
     assert_eq!(
-        bytes[37 * 127..],
-        *b"7f02fffffffffffffffefffffffffffffffe\n"
+        bytes[39 * 127..],
+        *b"7f0201fffffffffffffffefffffffffffffffe\n"
     );
 }
 

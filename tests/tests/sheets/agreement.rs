@@ -4,7 +4,7 @@ use estrenwind_tests::patterns::Random;
 use estrenwind_tests::recipes::growing::{grow, grow_sheet};
 use estrenwind_tests::recipes::walks::agreement::{compare, faults};
 use estrenwind_tests::recipes::{Draft, SheetCall};
-use estrenwind_tests::reference::recipe::Way;
+use estrenwind_tests::reference::recipe::{sheet, Way};
 
 /// Seeds that a test goes through, on all cores; each gives `CALLS` calls.
 const SEEDS: u64 = 1_600;
@@ -29,7 +29,7 @@ fn calls(seed: u64, visit: &mut dyn FnMut(SheetCall)) {
 /// The recipe's sheet, over memory that is a line longer at times.
 fn longer(random: &mut Random, draft: &Draft) -> SheetCall {
     let mut call = draft.sheet_call();
-    call.lent += [0, 0, 1, 37][random.below(4) as usize];
+    call.lent += [0, 0, 1, sheet::LINE][random.below(4) as usize];
     call
 }
 

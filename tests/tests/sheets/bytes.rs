@@ -5,7 +5,7 @@ use estrenwind_tests::recipes::comparison::check;
 use estrenwind_tests::recipes::growing::{grow_sheet, Plan};
 use estrenwind_tests::recipes::walks::bytes;
 use estrenwind_tests::recipes::{Call, Line, SheetCall};
-use estrenwind_tests::reference::recipe::Way;
+use estrenwind_tests::reference::recipe::{sheet, Way};
 
 #[test]
 fn every_byte_at_every_place_of_a_text() {
@@ -72,7 +72,7 @@ fn noise() {
     let mut random = Random::new(0x61);
     for round in 0..100_000 {
         let text = bytes::noise(&mut random, round);
-        let lent = random.below(37 * 6) as usize;
+        let lent = random.below(6 * sheet::LINE as u64) as usize;
         check(Way::Short, &SheetCall { text, lent });
     }
 }

@@ -1,11 +1,11 @@
-//! What document 01 prints, and what W-202 says of the zeros in fmin and fmax.
+//! What document 01 prints, with W-203's marks, and what W-202 says of the zeros in fmin and fmax.
 
 use crate::BEFORE;
 use estrenwind_tests::library::SheetAnswer;
 use estrenwind_tests::recipes::comparison::check;
 use estrenwind_tests::recipes::zeros::BOTH_ORDERS;
 use estrenwind_tests::recipes::{Call, SheetCall};
-use estrenwind_tests::reference::recipe::Way;
+use estrenwind_tests::reference::recipe::{sheet, text, Way};
 
 const EXAMPLE: &str = "\
 010000c004000000000000401d000000000000
@@ -14,16 +14,16 @@ const EXAMPLE: &str = "\
 ";
 
 const EXAMPLE_SHEET: &str = "\
-0001c004000000000000401d000000000000
-0101c008000000000000401c000000000000
-0202fffffffffffffffd0000000000000007
+000100c004000000000000401d000000000000
+010101c008000000000000401c000000000000
+020201fffffffffffffffd0000000000000007
 ";
 
 /// The sheet of a text, with memory for just its lines.
 fn call(text: &str) -> SheetCall {
     SheetCall {
         text: text.into(),
-        lent: text.len() / 39 * 37,
+        lent: text.len() / text::LINE * sheet::LINE,
     }
 }
 
@@ -41,7 +41,7 @@ fn passed(steps: usize) -> SheetAnswer {
 
 #[test]
 fn the_example_s_sheet_is_as_printed() {
-    for more in [0, 1, 36, 37, 1000] {
+    for more in [0, 1, 38, 39, 1000] {
         let mut call = call(EXAMPLE);
         call.lent += more;
         let outcome = check(Way::Exact, &call);
@@ -56,14 +56,14 @@ fn the_example_s_sheet_is_as_printed() {
 
 /// The sheet of `BOTH_ORDERS`.
 const ZEROS_SHEET: &str = "\
-000100000000000000004000000000000000
-010180000000000000004008000000000000
-020180000000000000004000000000000000
-030180000000000000004000000000000000
-040100000000000000004008000000000000
-050100000000000000004008000000000000
-0601c0000000000000000000000000000000
-070100000000000000004000000000000000
+00010000000000000000004000000000000000
+01010080000000000000004008000000000000
+02010080000000000000004000000000000000
+03010080000000000000004000000000000000
+04010000000000000000004008000000000000
+05010000000000000000004008000000000000
+060100c0000000000000000000000000000000
+07010000000000000000004000000000000000
 ";
 
 /// W-202: "Ranges on sheets are still compared as numbers", so fmin's range, from -0, isn't below
@@ -155,8 +155,8 @@ fn what_is_turned_down_and_with_which_number() {
     }
 }
 
-/// "Order: 10; then line by line 11 to 17; then 40; .. then steps in order, 20 to 22." "The sheet
-/// needs 37·n bytes for n steps".
+/// "Order: 10; then line by line 11 to 17; then 40; .. then steps in order, 20 to 22." W-203: "room
+/// is 39·n bytes", so 37·n, as before it, is too little, and so is 38·n.
 #[test]
 fn too_short_a_memory_comes_after_the_text_and_before_the_steps() {
     let lent = |lent: usize, text: &str| {
@@ -164,7 +164,7 @@ fn too_short_a_memory_comes_after_the_text_and_before_the_steps() {
         check(Way::Exact, &SheetCall { text, lent }).answer
     };
     let refusing = EXAMPLE.replace("401d000000000000", "7ff0000000000000");
-    for short in [0, 1, 36, 37, 74, 110] {
+    for short in [0, 1, 38, 39, 78, 3 * 37, 3 * 38, 3 * 39 - 1] {
         assert_eq!(lent(short, EXAMPLE), refused(40, 0));
         assert_eq!(lent(short, &refusing), refused(40, 0));
         assert_eq!(lent(short, &EXAMPLE[1..]), refused(10, 0));
@@ -177,7 +177,7 @@ fn too_short_a_memory_comes_after_the_text_and_before_the_steps() {
             refused(11, 2)
         );
     }
-    for enough in [111, 112, 117, 5000] {
+    for enough in [3 * 39, 3 * 39 + 1, 4 * 39, 5000] {
         assert_eq!(lent(enough, EXAMPLE), passed(3));
         assert_eq!(lent(enough, &refusing), refused(21, 2));
     }

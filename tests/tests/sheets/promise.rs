@@ -1,45 +1,21 @@
 //! What a passed sheet promises: every run over a frame of inputs in their declared ranges completes,
-//! and each of its words lies in the range that the sheet shows for its step. Both are the
-//! library's; the reference takes no part but in the choice of recipes.
+//! each of its words lies in the range that the sheet shows for its step, and a double with the mark
+//! is finite and integral. Sheet and runs are the library's; the reference takes no part but in the
+//! choice of recipes.
 
 use estrenwind_tests::comparison::on_all_cores;
 use estrenwind_tests::library::{self, RunAnswer, SheetAnswer};
 use estrenwind_tests::patterns::Random;
-use estrenwind_tests::recipes::growing::{grow, grow_sheet};
+use estrenwind_tests::recipes::growing::{grow, grow_marked, grow_sheet};
+use estrenwind_tests::recipes::shown::{is_finite_and_integral, read, Shown};
 use estrenwind_tests::recipes::{frame, Draft, Line};
-use estrenwind_tests::reference::recipe::{Kind, Operation, OPERATIONS};
+use estrenwind_tests::reference::recipe::{text, Kind, Operation, OPERATIONS};
 use std::collections::BTreeMap;
 
 const SEEDS: u64 = 2_400;
 
 /// Frames that are drawn for a recipe with inputs.
 const FRAMES: usize = 20;
-
-/// A line of a sheet, as the library wrote it.
-struct Shown {
-    kind: Kind,
-    low: u64,
-    high: u64,
-}
-
-/// The lines of a sheet; stops where it isn't one.
-fn read(sheet: &[u8]) -> Vec<Shown> {
-    let sheet = std::str::from_utf8(sheet).expect("a sheet is text");
-    let line = |(step, line): (usize, &str)| {
-        let number = |from: usize, to: usize| {
-            u64::from_str_radix(&line[from..to], 16).expect("a sheet is digits")
-        };
-        assert_eq!((line.len(), number(0, 2)), (36, step as u64), "{sheet}");
-        let kind = match number(2, 4) {
-            1 => Kind::Double,
-            2 => Kind::Whole,
-            kind => panic!("kind {kind}\n{sheet}"),
-        };
-        let (low, high) = (number(4, 20), number(20, 36));
-        Shown { kind, low, high }
-    };
-    sheet.lines().enumerate().map(line).collect()
-}
 
 /// Where a word lies, seen from a range.
 #[derive(Clone, Copy, Debug, PartialEq, Eq, PartialOrd, Ord)]
@@ -54,7 +30,7 @@ enum Lie {
 }
 
 /// By the language's own comparison, for which the zeros are equal and a NaN is nowhere.
-fn lie<T: PartialOrd>(low: T, word: T, high: T) -> Lie {
+fn lie_of<T: PartialOrd>(low: T, word: T, high: T) -> Lie {
     if !(low <= word && word <= high) {
         Lie::Outside
     } else if low == high {
@@ -68,17 +44,31 @@ fn lie<T: PartialOrd>(low: T, word: T, high: T) -> Lie {
     }
 }
 
-impl Shown {
-    fn lie(&self, word: u64) -> Lie {
-        let (low, high) = (self.low, self.high);
-        match self.kind {
-            Kind::Double => {
-                let [low, word, high] = [low, word, high].map(f64::from_bits);
-                lie(low, word, high)
-            }
-            Kind::Whole => lie(low as i64, word as i64, high as i64),
+fn lie(shown: &Shown, word: u64) -> Lie {
+    let Shown { low, high, .. } = *shown;
+    match shown.kind {
+        Kind::Double => {
+            let [low, word, high] = [low, word, high].map(f64::from_bits);
+            lie_of(low, word, high)
         }
+        Kind::Whole => lie_of(low as i64, word as i64, high as i64),
     }
+}
+
+/// How a run's words break what the lines of a sheet say of their steps, if they do: the first step,
+/// and the word there.
+pub fn broken(shown: &[Shown], words: &[u64]) -> Option<(usize, String)> {
+    let lines = shown.iter().zip(words).enumerate();
+    let mut broken = lines.filter_map(|(step, (shown, &word))| {
+        if lie(shown, word) == Lie::Outside {
+            Some((step, format!("step {step}: {word:016x} is outside")))
+        } else if shown.kind == Kind::Double && shown.mark && !is_finite_and_integral(word) {
+            Some((step, format!("step {step}: {word:016x} is no integer")))
+        } else {
+            None
+        }
+    });
+    broken.next()
 }
 
 /// What sort of an input was drawn.
@@ -148,7 +138,7 @@ struct Counts {
     refused: u64,
     runs: u64,
     prefixes: u64,
-    words: BTreeMap<(u8, Lie), u64>,
+    words: BTreeMap<(u8, bool, Lie), u64>,
     inputs: BTreeMap<(u8, Sort), u64>,
 }
 
@@ -166,8 +156,9 @@ impl Counts {
         }
     }
 
-    fn words(&self, opcode: u8, lie: Lie) -> u64 {
-        self.words.get(&(opcode, lie)).copied().unwrap_or(0)
+    /// Words of steps with this opcode and mark.
+    fn words(&self, opcode: u8, mark: bool, lie: Lie) -> u64 {
+        self.words.get(&(opcode, mark, lie)).copied().unwrap_or(0)
     }
 
     fn inputs(&self, opcode: u8, sort: Sort) -> u64 {
@@ -175,13 +166,15 @@ impl Counts {
     }
 }
 
-/// The recipes of a seed: grown along ranges, with and without a step that the sheet is to refuse;
-/// grown along a frame, where it may; and each step on inputs.
+/// The recipes of a seed: grown along ranges, with few marks and with many, with and without a step
+/// that the sheet is to refuse; grown along a frame, where it may; and each step on inputs.
 fn recipes(random: &mut Random) -> Vec<Draft> {
     let mut drafts = Vec::new();
-    for _ in 0..20 {
-        let plan = random.plan();
-        drafts.push(grow_sheet(random, &plan).0);
+    for grow in [grow_sheet, grow_marked] {
+        for _ in 0..12 {
+            let plan = random.plan();
+            drafts.push(grow(random, &plan).0);
+        }
     }
     for number in [20, 21, 22] {
         let plan = random.plan();
@@ -209,7 +202,7 @@ fn on_inputs(random: &mut Random, operation: &Operation) -> Draft {
 
 /// The frames of a recipe, no two the same: each input at its low end, each at its high one, and
 /// drawn ones. Without inputs there is one frame.
-fn frames(random: &mut Random, draft: &Draft) -> Vec<Vec<u64>> {
+pub fn frames(random: &mut Random, draft: &Draft) -> Vec<Vec<u64>> {
     let inputs: Vec<Line> = (draft.inputs().into_iter())
         .map(|place| draft.lines[place])
         .collect();
@@ -263,13 +256,12 @@ fn check(random: &mut Random, draft: &Draft, counts: &mut Counts) -> Option<Stri
         if answer != expected {
             return told(&inputs, format!("{answer}\nexpected {expected}"));
         }
-        for (step, (&word, shown)) in words.iter().zip(&shown).enumerate() {
-            let lie = shown.lie(word);
-            if lie == Lie::Outside {
-                return told(&inputs, format!("step {step}: {word:016x} is outside"));
-            }
-            let opcode = draft.lines[step].opcode;
-            *counts.words.entry((opcode, lie)).or_default() += 1;
+        if let Some((_, what)) = broken(&shown, &words) {
+            return told(&inputs, what);
+        }
+        for ((shown, &word), line) in shown.iter().zip(&words).zip(&draft.lines) {
+            let of_word = (line.opcode, shown.mark, lie(shown, word));
+            *counts.words.entry(of_word).or_default() += 1;
         }
         for (place, &word) in draft.inputs().into_iter().zip(&inputs) {
             let line = draft.lines[place];
@@ -286,7 +278,7 @@ fn check(random: &mut Random, draft: &Draft, counts: &mut Counts) -> Option<Stri
                 let used = draft.inputs().into_iter().filter(|&place| place < steps);
                 let frame = frame(&inputs[..used.count()]);
                 let mut prefix = vec![0; steps];
-                let answer = library::run(&text[..39 * steps], &frame, &mut prefix);
+                let answer = library::run(&text[..text::LINE * steps], &frame, &mut prefix);
                 if (answer.refusal, answer.kind) != (0, shown.kind as u64) {
                     return told(&inputs, format!("up to step {step}: {answer}"));
                 }
@@ -315,19 +307,26 @@ fn every_run_of_a_passed_sheet_completes_in_its_ranges() {
     assert!(counts.runs >= 1_000_000, "{} runs", counts.runs);
     assert!(counts.prefixes >= 20_000, "{} prefixes", counts.prefixes);
 
-    // Of each step, words at either end and between them. A constant has no range but itself.
+    // Of each step, with the mark and without where it can be so, words at either end and between
+    // them. A constant has no range but itself, and neither has an input with the mark.
     for operation in &OPERATIONS {
         let opcode = operation.opcode;
-        let lies = [Lie::Alone, Lie::Low, Lie::High, Lie::Inside];
-        let met = lies.map(|lie| counts.words(opcode, lie));
-        println!("opcode {opcode:02x}, words alone, low, high, inside: {met:?}");
-        let is_constant = !operation.uses_a() && !operation.is_input();
-        let expected = if is_constant { &met[..1] } else { &met[..] };
-        assert!(
-            expected.iter().all(|&count| count >= 1_000),
-            "opcode {opcode:02x}: {met:?}"
-        );
-        assert!(!is_constant || met[1..] == [0, 0, 0], "{opcode:02x}");
+        for mark in [false, true] {
+            let lies = [Lie::Alone, Lie::Low, Lie::High, Lie::Inside];
+            let met = lies.map(|lie| counts.words(opcode, mark, lie));
+            println!("opcode {opcode:02x}, mark {mark}, words alone, low, high, inside: {met:?}");
+            let (some, none) = met.split_at(match (opcode, mark) {
+                (0x15 | 0x23, true) => 0,
+                (0x02 | 0x04 | 0x18 | 0x30 | 0x31 | 0x32, false) => 0,
+                (0x03 | 0x04, _) | (0x01, true) => 1,
+                _ => 4,
+            });
+            assert!(
+                some.iter().all(|&count| count >= 1_000),
+                "opcode {opcode:02x}, mark {mark}: {met:?}"
+            );
+            assert!(none.iter().all(|&count| count == 0), "{opcode:02x}, {mark}");
+        }
     }
 
     for sort in SORTS {
@@ -377,7 +376,40 @@ fn words_lie_where_they_should() {
         (Kind::Whole, u64::MAX, 1, u64::MAX - 1, Outside),
         (Kind::Whole, u64::MAX, u64::MAX, u64::MAX, Alone),
     ] {
-        let shown = Shown { kind, low, high };
-        assert_eq!(shown.lie(word), expected, "{kind:?} {low:x} {high:x} {word:x}");
+        let shown = Shown { kind, mark: false, low, high };
+        assert_eq!(lie(&shown, word), expected, "{kind:?} {low:x} {high:x} {word:x}");
+    }
+}
+
+/// What a line says is broken by a word outside its range, and by a fraction or an infinity where a
+/// double has the mark. A whole number has no fraction whatever its bits.
+#[test]
+#[rustfmt::skip]
+fn words_break_what_they_should() {
+    const ONE: u64 = 0x3ff0000000000000;
+    const HALF: u64 = 0x3fe0000000000000;
+    const INFINITY: u64 = 0x7ff0000000000000;
+    const MINUS: u64 = 1 << 63;
+    for (kind, mark, word, is_broken) in [
+        (Kind::Double, true, 0, false),
+        (Kind::Double, true, MINUS, false),
+        (Kind::Double, true, ONE, false),
+        (Kind::Double, true, HALF, true),
+        (Kind::Double, true, 1, true),
+        (Kind::Double, true, INFINITY, true),
+        (Kind::Double, true, INFINITY - 1, false),
+        (Kind::Double, false, HALF, false),
+        (Kind::Double, false, INFINITY, false),
+        (Kind::Double, false, INFINITY + 1, true),
+        (Kind::Double, false, MINUS | 1, true),
+        (Kind::Double, true, MINUS | ONE, true),
+        (Kind::Whole, true, HALF, false),
+        (Kind::Whole, true, MINUS | 1, true),
+    ] {
+        let range = [0, INFINITY];
+        let shown = |mark, [low, high]: [u64; 2]| Shown { kind, mark, low, high };
+        let lines = [shown(false, range), shown(mark, range), shown(false, range)];
+        let step = broken(&lines, &[0, word, 0]).map(|(step, _)| step);
+        assert_eq!(step, is_broken.then_some(1), "{kind:?} {mark} {word:x}");
     }
 }

@@ -1,9 +1,9 @@
 //! The range rules where they change: ranges read off document 01 by hand, not off the reference.
 //!
 //! Each row is one step on inputs of the ranges given, and what the sheet shows for it, to the bit;
-//! or the number with which it's refused.
+//! or the number with which it's refused. The marks are in `marks`.
 
-use crate::BEFORE;
+use crate::shown_lines;
 use estrenwind_tests::library::SheetAnswer;
 use estrenwind_tests::recipes::comparison::check;
 use estrenwind_tests::recipes::limits::{INF, LEAST, MAX, MOST, TINY, TWO_53, TWO_63};
@@ -35,12 +35,12 @@ fn shows<R: Ends>(opcode: u8, inputs: &[Line], expected: Result<R, u64>) {
         }
         Ok(ends) => {
             assert_eq!(outcome.answer, SheetAnswer::passed(step + 1), "{call}");
+            let shown = shown_lines(&outcome)[step];
             let [low, high] = ends.words();
-            let line = format!("{step:02x}{:02x}{low:016x}{high:016x}\n", R::KIND as u8);
-            let shown = &outcome.memory[BEFORE + 37 * step..][..37];
+            assert_eq!(shown.kind, R::KIND, "{call}");
             assert_eq!(
-                shown.escape_ascii().to_string(),
-                line.escape_default().to_string(),
+                format!("{:016x} {:016x}", shown.low, shown.high),
+                format!("{low:016x} {high:016x}"),
                 "{call}"
             );
         }
@@ -391,11 +391,14 @@ fn whole_to_double() {
 #[test]
 fn inputs_and_constants() {
     let shown = |line: Line, [low, high]: [u64; 2]| {
-        let kind = line.kind().expect("an opcode") as u8;
-        let (lines, words) = (vec![line], vec![]);
-        let outcome = check(Way::Exact, &Draft { lines, words }.sheet_call());
-        let expected = format!("00{kind:02x}{low:016x}{high:016x}\n");
-        assert_eq!(outcome.memory[BEFORE..][..37], *expected.as_bytes());
+        let draft = Draft {
+            lines: vec![line],
+            words: vec![],
+        };
+        let outcome = check(Way::Exact, &draft.sheet_call());
+        let shown = shown_lines(&outcome)[0];
+        assert_eq!(Some(shown.kind), line.kind());
+        assert_eq!(shown.ends(), [low, high]);
     };
     for ends in [
         [0.0, 0.0],

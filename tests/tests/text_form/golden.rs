@@ -57,6 +57,7 @@ fn examples() {
         "divisor_through_zero",
         "index_clamp",
         "ldexp_out_of_range",
+        "texel_lookup",
         "texture_index",
         "turned_down",
         "two_zeros",

@@ -5,6 +5,7 @@ mod completion;
 mod documents;
 mod examples;
 mod golden;
+mod marks;
 mod mends;
 mod round_trip;
 mod slips;

@@ -139,21 +139,23 @@ fn no_colour_where_there_is_no_terminal() {
     }
 }
 
-/// What a program reads: a sheet that passes, infinities and large whole numbers in it, and one that is refused.
+/// What a program reads: a sheet that passes, infinities, large whole numbers and a double without a fraction in it, and one that is refused.
 #[test]
 fn json() {
     let ran = estrenwind(
         &["sheet", "--json", "-"],
-        "u = input -inf .. 1\nn = constant whole 9223372036854775807\nx = negate u\n",
+        "u = input -inf .. 1\nn = constant whole 9223372036854775807\nx = negate u\nk = constant -0\n",
     );
     assert_eq!(ran.status, 0);
     let expected = "{\"file\": \"standard input\", \"passed\": true, \"steps\": [\n  \
-        {\"step\": 0, \"name\": \"u\", \"operation\": \"input\", \"operands\": [], \"kind\": \"double\", \"low\": \"-inf\", \"high\": \"1\", \
+        {\"step\": 0, \"name\": \"u\", \"operation\": \"input\", \"operands\": [], \"kind\": \"double\", \"whole\": false, \"low\": \"-inf\", \"high\": \"1\", \
         \"low_bits\": \"fff0000000000000\", \"high_bits\": \"3ff0000000000000\"},\n  \
-        {\"step\": 1, \"name\": \"n\", \"operation\": \"constant whole\", \"operands\": [], \"kind\": \"whole\", \"low\": \"9223372036854775807\", \
+        {\"step\": 1, \"name\": \"n\", \"operation\": \"constant whole\", \"operands\": [], \"kind\": \"whole\", \"whole\": true, \"low\": \"9223372036854775807\", \
         \"high\": \"9223372036854775807\", \"low_bits\": \"7fffffffffffffff\", \"high_bits\": \"7fffffffffffffff\"},\n  \
-        {\"step\": 2, \"name\": \"x\", \"operation\": \"negate\", \"operands\": [\"u\"], \"kind\": \"double\", \"low\": \"-1\", \"high\": \"inf\", \
-        \"low_bits\": \"bff0000000000000\", \"high_bits\": \"7ff0000000000000\"}\n]}\n";
+        {\"step\": 2, \"name\": \"x\", \"operation\": \"negate\", \"operands\": [\"u\"], \"kind\": \"double\", \"whole\": false, \"low\": \"-1\", \"high\": \"inf\", \
+        \"low_bits\": \"bff0000000000000\", \"high_bits\": \"7ff0000000000000\"},\n  \
+        {\"step\": 3, \"name\": \"k\", \"operation\": \"constant\", \"operands\": [], \"kind\": \"double\", \"whole\": true, \"low\": \"-0\", \"high\": \"-0\", \
+        \"low_bits\": \"8000000000000000\", \"high_bits\": \"8000000000000000\"}\n]}\n";
     assert_eq!(ran.output, expected);
     let refused = estrenwind(&["sheet", "--json", "-"], NO_SHEET);
     assert_eq!(refused.status, 3);

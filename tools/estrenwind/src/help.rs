@@ -6,7 +6,7 @@ usage: estrenwind COMMAND [OPTION].. FILE..
 Recipes of roundings, as people write and read them:
 
   check FILE..          is it read, and does it have a sheet? Slips are shown
-  sheet FILE            the range of every step, as a table
+  sheet FILE            the range of every step, and which have no fraction
   explain FILE          why there is no sheet, and what would mend it
   run FILE [FRAMES]     answer frames, from a file or standard input
   join PART..           put the parts of a run with --shard together again
@@ -43,10 +43,13 @@ pub const SHEET: &str = "\
 usage: estrenwind sheet [--hex | --json] FILE
 
 Shows the range of every step: whatever frame is run whose inputs lie in their
-ranges, it is answered, and each step's value lies in the range shown.
+ranges, it is answered, and each step's value lies in the range shown. Where the
+column whole says yes, that value is also finite and has no fraction; where it
+is blank, nothing is promised of that.
 
   --hex     the lines that the program sheet writes
-  --json    JSON: an object with the steps, numbers as texts
+  --json    JSON: an object with the steps, numbers as texts, whole as true or
+            false
 
 Exit status: 0 there is a sheet, 3 there is none (standard error says why).
 ";

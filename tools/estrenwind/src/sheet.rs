@@ -1,4 +1,4 @@
-//! `estrenwind sheet`: the range of every step.
+//! `estrenwind sheet`: the range of every step, and whether its value is whole.
 
 use crate::explain;
 use crate::failure::Status;
@@ -71,7 +71,8 @@ fn as_table(recipe: &Recipe, ranges: &[Range]) -> String {
         .iter()
         .map(|range| Row::of_range(recipe, range))
         .collect();
-    let promise = "Every frame whose inputs lie in their ranges is answered, and each step's value lies in the range shown.";
+    let promise = "Every frame whose inputs lie in their ranges is answered, and each step's value lies in the range shown. \
+                   A value marked whole is finite and has no fraction.";
     format!("{}\n{}", table(&rows), wrapped(promise))
 }
 
@@ -95,6 +96,7 @@ fn as_json(recipe: &Recipe, ranges: &[Range]) -> String {
                 ("operation", json::text(step.operation.name())),
                 ("operands", json::array(&operands)),
                 ("kind", json::text(kind)),
+                ("whole", range.whole.to_string()),
                 ("low", json::text(&number::word_text(range.kind, range.low))),
                 (
                     "high",

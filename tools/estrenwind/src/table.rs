@@ -1,4 +1,4 @@
-//! Steps and their ranges as a table that fits a line of 80.
+//! Steps, their ranges and their marks as a table that fits a line of 80.
 
 use crate::number;
 use crate::recipe::Recipe;
@@ -7,7 +7,7 @@ use estrenwind::Range;
 /// Columns of a terminal that nothing goes beyond.
 pub const WIDTH: usize = 80;
 
-/// A row: a step, and its range where it is known.
+/// A row: a step, and its range and mark where they are known.
 #[derive(Clone, Debug, Default)]
 pub struct Row {
     pub step: String,
@@ -16,6 +16,8 @@ pub struct Row {
     pub low: String,
     /// Empty where the range is one number.
     pub high: String,
+    /// Yes where the sheet marks the step, empty where it does not.
+    pub whole: String,
 }
 
 impl Row {
@@ -41,15 +43,22 @@ impl Row {
         if range.low != range.high {
             row.high = number::word_text(range.kind, range.high);
         }
+        if range.whole {
+            row.whole = "yes".into();
+        }
         row
     }
 
+    /// The range with its mark, where there are no columns for them: `0 .. 255, whole`
     fn range(&self) -> String {
-        if self.high.is_empty() {
-            self.low.clone()
-        } else {
-            format!("{} .. {}", self.low, self.high)
+        let mut text = self.low.clone();
+        if !self.high.is_empty() {
+            text += &format!(" .. {}", self.high);
         }
+        if !self.whole.is_empty() {
+            text += ", whole";
+        }
+        text
     }
 }
 
@@ -61,6 +70,7 @@ pub fn table(rows: &[Row]) -> String {
         operation: "operation".into(),
         low: "lowest".into(),
         high: "highest".into(),
+        whole: "whole".into(),
     };
     let all: Vec<&Row> = [&heading].into_iter().chain(rows).collect();
     let widest =
@@ -70,6 +80,7 @@ pub fn table(rows: &[Row]) -> String {
         operation: widest(|row| &row.operation),
         low: widest(|row| &row.low),
         high: widest(|row| &row.high),
+        whole: widest(|row| &row.whole),
     };
     all.iter().map(|row| columns.line(row)).collect()
 }
@@ -80,6 +91,7 @@ struct Columns {
     operation: usize,
     low: usize,
     high: usize,
+    whole: usize,
 }
 
 impl Columns {
@@ -94,20 +106,17 @@ impl Columns {
             operation,
             low,
             high,
+            whole,
         } = *self;
-        if self.front() + operation + 2 + low + 4 + high <= WIDTH {
-            let line = format!(
-                "{:>4}  {:name$}  {:operation$}  {:>low$}",
-                row.step, row.name, row.operation, row.low
-            );
-            let dots = if row.high.is_empty() {
-                String::new()
-            } else {
-                format!(" .. {}", row.high)
-            };
-            return format!("{}\n", format!("{line}{dots}").trim_end());
+        if self.front() + operation + 2 + low + 4 + high + 2 + whole > WIDTH {
+            return self.broken_line(row);
         }
-        self.broken_line(row)
+        let dots = if row.high.is_empty() { "" } else { " .. " };
+        let line = format!(
+            "{:>4}  {:name$}  {:operation$}  {:>low$}{dots:4}{:high$}  {}",
+            row.step, row.name, row.operation, row.low, row.high, row.whole
+        );
+        format!("{}\n", line.trim_end())
     }
 
     /// A row of a table that is too wide: what does not fit goes to a line of its own.
@@ -185,12 +194,48 @@ mod tests {
         assert_eq!(
             shown("u = input -0.5 .. 254.5\nup = round u\nn = lround up\nm = difference n 7\n"),
             concat!(
-                "step  name  operation       lowest .. highest\n",
+                "step  name  operation       lowest .. highest  whole\n",
                 "   0  u     input             -0.5 .. 254.5\n",
-                "   1  up    round u             -1 .. 255\n",
-                "   2  n     lround up           -1 .. 255\n",
-                "   3  7     constant whole       7\n",
-                "   4  m     difference n 7      -8 .. 248\n",
+                "   1  up    round u             -1 .. 255      yes\n",
+                "   2  n     lround up           -1 .. 255      yes\n",
+                "   3  7     constant whole       7             yes\n",
+                "   4  m     difference n 7      -8 .. 248      yes\n",
+            )
+        );
+    }
+
+    /// Each row says what the sheet's line does, in columns and where there is no room for them.
+    #[test]
+    fn marks_are_shown() {
+        let marks = "u = input -inf .. inf\nk = input 0 .. -0\na = floor u\nb = fmax u 0\nc = fmin b 2.5\nd = trunc c\ne = ldexp d 1\n";
+        assert_eq!(
+            shown(marks),
+            concat!(
+                "step  name  operation       lowest .. highest  whole\n",
+                "   0  u     input             -inf .. inf\n",
+                "   1  k     input                0 .. -0       yes\n",
+                "   2  a     floor u           -inf .. inf\n",
+                "   3  0     constant             0             yes\n",
+                "   4  b     fmax u 0             0 .. inf\n",
+                "   5  2.5   constant           2.5\n",
+                "   6  c     fmin b 2.5           0 .. 2.5\n",
+                "   7  d     trunc c              0 .. 2        yes\n",
+                "   8  1     constant whole       1             yes\n",
+                "   9  e     ldexp d 1            0 .. 4\n",
+            )
+        );
+        let name = "n".repeat(LONGEST_NAME);
+        assert_eq!(
+            shown(&format!("{name} = input 0.5 .. 1e300\nx = ceil {name}\n")),
+            format!(
+                concat!(
+                    "step  name                            operation\n",
+                    "                                      lowest .. highest, whole\n",
+                    "   0  {0}  input                     0.5 .. 1e300\n",
+                    "   1  x                               ceil {0}\n",
+                    "                                      1 .. 1e300, whole\n",
+                ),
+                name
             )
         );
     }

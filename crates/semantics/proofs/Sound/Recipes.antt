@@ -26,9 +26,11 @@ use Rattle.semantics.specs.Run.{Run, completed, noValue, onOutcome, runF
 use Rattle.semantics.specs.Sheet.{passed, noRange, onRanged, sheetFrom}
 use Rattle.semantics.specs.Promise.{Lies, Proper, Promise, TextPromise}
 use Rattle.semantics.proofs.Calls.{run-read}
+use Rattle.semantics.proofs.Worked.{run-worked}
 use Rattle.semantics.proofs.Sound.Kept.{never, Kept}
 use Rattle.semantics.proofs.Sound.Steps.{step-kept}
 use Rattle.semantics.proofs.Sound.Kinds.{lies-kind, HasKind, step-kind}
+use Rattle.semantics.proofs.Sound.Marks.{marks-kept}
 
 -- ---- values in their ranges, step by step
 
@@ -218,6 +220,7 @@ sheet-sound l f s lent rs ws g =
       shown = sheet-kinds l rs f (g .passes);
       kinds = λ k h. lies-kind (getD rs k noRange) (getD (i .values) k noValue) (i .covers .lie k);
       lie = λ k h. i .covers .lie k;
+      integral = λ k h m. marks-kept l ws (i .values) rs (run-worked l ws (i .values) (i .is)) (i .covers .as-many) (i .covers .lie) (i .covers .proper) k (omega arith) m;
       written = ap (λ (o : Run). wordsOf o lent) e ∙ ap (λ (n : ℕ). map wordOf (i .values) ++ drop n lent) (i .count);
       returned = ap answerOf e;
     }

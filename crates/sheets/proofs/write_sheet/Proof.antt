@@ -1,6 +1,6 @@
--- `write_sheet` meets its contract. The first loop's invariant is `Folding.Walked`: the sheet comes to what is left of it after the ranges so far.
--- The second loop's: the bytes so far are the lines of the first j ranges, and the rest as lent. The measures are the steps left. Assumes
--- nothing.
+-- `write_sheet` meets its contract. The first loop's invariant is `Folding.Walked`, the sheet comes to what is left of it after the ranges so far,
+-- and `Marking.Marked`, the marks so far are the definition's. The second loop's: the bytes so far are the lines of the first j ranges, and the
+-- rest as lent. The measures are the steps left. Assumes nothing.
 use mathlib.Core.Path.{_≡_, refl, _∙_}
 use mathlib.Core.List.{map}
 use Prim.Native.Nat.{_+_, _-_, _*_, _≤_}
@@ -10,29 +10,32 @@ use lib.ListN.{length, take, length-map}
 use lib.Seq.{length-take-le}
 use denote.Ref.{now}
 use borrow.Author.Needs.{needs}
-use Rattle.semantics.specs.Sheet.{passed, sheetLine}
+use Rattle.semantics.specs.Mark.{noMark}
+use Rattle.semantics.specs.Sheet.{passed}
+use Rattle.semantics.specs.Shown.{marked, sheetLine}
 use Rattle.ranges.specs.declared.Range.the-variants.{Doubles}
 use Rattle.ranges.specs.Seen.{seenRange}
 use Rattle.ranges.specs.Carried.{stopped}
 use Rattle.ranges.proofs.Folding.{Walked, walked-start, walked-more, walked-refused, walked-done, fetch-real}
 use Rattle.sheets.proofs.Showing.{lines, lines-none, lines-length, lines-next, all-lines}
+use Rattle.sheets.proofs.Marking.{Marked, marked-start, marked-more, mark-at, marks-done}
 use Rattle.sheets.proofs.write_sheet.Statement.{statement}
 use Rattle.sheets.proofs.write_sheet.Tie as tie
 
 abbrev Inv-loop : tie.InvT-loop
-Inv-loop steps n bytes ranges₀ i₀ ranges i = Walked passed stopped steps n ranges i
+Inv-loop steps n bytes ranges₀ marks₀ i₀ ranges marks i = Walked passed stopped steps n ranges i × Marked steps ranges marks i
 
 abbrev μ-loop : tie.MeasureT-loop
-μ-loop steps n bytes ranges₀ i₀ ranges i = n - i
+μ-loop steps n bytes ranges₀ marks₀ i₀ ranges marks i = n - i
 
 abbrev Inv-loop2 : tie.InvT-loop2
-Inv-loop2 steps n bytes₀ ranges i j₀ bytes j = (j ≤ n) × (bytes ≡ lines ranges j bytes₀)
+Inv-loop2 steps n bytes₀ ranges marks i j₀ bytes j = (j ≤ n) × (bytes ≡ lines ranges (take n marks) j bytes₀)
 
 abbrev μ-loop2 : tie.MeasureT-loop2
-μ-loop2 steps n bytes₀ ranges i j₀ bytes j = n - j
+μ-loop2 steps n bytes₀ ranges marks i j₀ bytes j = n - j
 
 loop-holds : tie.Need-loop-holds Inv-loop μ-loop Inv-loop2 μ-loop2
-loop-holds c = let a = c .before .before .args in walked-start passed stopped (now (a .steps)) (a .n)
+loop-holds c = let a = c .before .before .args in (walked-start passed stopped (now (a .steps)) (a .n), marked-start (now (a .steps)) _)
 
 step-at-requires : tie.Need-step-at-requires Inv-loop μ-loop Inv-loop2 μ-loop2
 step-at-requires c κs = omega arith
@@ -59,8 +62,8 @@ step-range-requires : tie.Need-step-range-requires Inv-loop μ-loop Inv-loop2 μ
 step-range-requires c κs =
     let a = c .before .before .before .before .before .before .before .before .before .args in
     let l = c .before .before .before .before .before .before .loop in (
-      fetch-real passed stopped (now (a .steps)) (a .n) (l .ranges) (l .i) (l .inv) _ _ (omega (arith, c .before .before .before .place-of .ensures .1)),
-      fetch-real passed stopped (now (a .steps)) (a .n) (l .ranges) (l .i) (l .inv) _ _ (omega (arith, c .before .before .place-of2 .ensures .1)),
+      fetch-real passed stopped (now (a .steps)) (a .n) (l .ranges) (l .i) (l .inv .0) _ _ (omega (arith, c .before .before .before .place-of .ensures .1)),
+      fetch-real passed stopped (now (a .steps)) (a .n) (l .ranges) (l .i) (l .inv .0) _ _ (omega (arith, c .before .before .place-of2 .ensures .1)),
     )
 
 enum-known-r : tie.Need-enum-known-r Inv-loop μ-loop Inv-loop2 μ-loop2
@@ -69,25 +72,38 @@ enum-known-r c = search needs
 enum-known-number : tie.Need-enum-known-number Inv-loop μ-loop Inv-loop2 μ-loop2
 enum-known-number c = search needs
 
-cast-t28 : tie.Need-cast-t28 Inv-loop μ-loop Inv-loop2 μ-loop2
-cast-t28 c = omega arith
+cast-t30 : tie.Need-cast-t30 Inv-loop μ-loop Inv-loop2 μ-loop2
+cast-t30 c = omega arith
 
 refusal-at-requires : tie.Need-refusal-at-requires Inv-loop μ-loop Inv-loop2 μ-loop2
 refusal-at-requires c κs = tt
 
 returns : tie.Need-returns Inv-loop μ-loop Inv-loop2 μ-loop2
+unfolding marked
 returns c =
     let a = c .before .before .before .before .before .before .before .before .before .before .before .before .before .before .args in
     let l = c .before .before .before .before .before .before .before .before .before .before .before .loop in
     rw (
-    walked-refused passed stopped (now (a .steps)) (a .n) (l .ranges) (l .i) (l .inv) (omega arith) (omega arith) _ (c .before .before .before .before .before .before .before .before .before .step-at .ensures) _ _ (Doubles (record { low = nan; high = nan }))
+    walked-refused passed stopped (now (a .steps)) (a .n) (l .ranges) (l .i) (l .inv .0) (omega arith) (omega arith) _ (c .before .before .before .before .before .before .before .before .before .step-at .ensures) _ _ (Doubles (record { low = nan; high = nan }))
     (c .before .before .before .before .before .before .before .before .place-of .ensures .0) (c .before .before .before .before .before .before .before .place-of2 .ensures .0) _ (c .before .before .before .before .step-range .ensures .0) _ (c .before .before .number .given .1)) (c .refusal-at .ensures, refl)
+
+array-read-step-mark : tie.Need-array-read-step-mark Inv-loop μ-loop Inv-loop2 μ-loop2
+array-read-step-mark c = omega (arith, c .before .before .before .before .before .before .before .place-of .ensures .1, c .before .before .before .before .before .before .before .before .before .before .loop .inv .1 .filled .long)
+
+array-read-step-mark-2 : tie.Need-array-read-step-mark-2 Inv-loop μ-loop Inv-loop2 μ-loop2
+array-read-step-mark-2 c = omega (arith, c .before .before .before .before .before .before .place-of2 .ensures .1, c .before .before .before .before .before .before .before .before .before .before .loop .inv .1 .filled .long)
+
+step-mark-requires : tie.Need-step-mark-requires Inv-loop μ-loop Inv-loop2 μ-loop2
+step-mark-requires c κs = rw (c .before .r .given .1) at (c .before .before .before .step-range .ensures .1)
 
 mul-ranges : tie.Need-mul-ranges Inv-loop μ-loop Inv-loop2 μ-loop2
 mul-ranges c = omega arith
 
 array-set-from-ranges : tie.Need-array-set-from-ranges Inv-loop μ-loop Inv-loop2 μ-loop2
 array-set-from-ranges c = omega arith
+
+array-write-marks : tie.Need-array-write-marks Inv-loop μ-loop Inv-loop2 μ-loop2
+array-write-marks c = omega (arith, c .before .before .before .before .before .before .before .before .before .before .before .loop .inv .1 .filled .long)
 
 add-i : tie.Need-add-i Inv-loop μ-loop Inv-loop2 μ-loop2
 add-i c = omega arith
@@ -97,13 +113,18 @@ loop-less c = omega arith
 
 loop-again : tie.Need-loop-again Inv-loop μ-loop Inv-loop2 μ-loop2
 loop-again c =
-    let a = c .before .before .before .before .before .before .before .before .before .before .before .before .before .args in
-    let l = c .before .before .before .before .before .before .before .before .before .before .loop in
-    walked-more passed stopped (now (a .steps)) (a .n) (l .ranges) (l .i) (l .inv) (omega arith) (omega arith) _ (c .before .before .before .before .before .before .before .before .step-at .ensures) _ _ (Doubles (record { low = nan; high = nan }))
-    (c .before .before .before .before .before .before .before .place-of .ensures .0) (c .before .before .before .before .before .before .place-of2 .ensures .0) _ (c .before .before .before .step-range .ensures .0) _ (c .before .r .given .1) (c .before .before .before .step-range .ensures .1)
+    let a = c .before .before .before .before .before .before .before .before .before .before .before .before .before .before .args in
+    let l = c .before .before .before .before .before .before .before .before .before .before .before .loop in
+    let f = c .before .before .before .before .before .before .before .before .place-of .ensures .0 in
+    let g = c .before .before .before .before .before .before .before .place-of2 .ensures .0 in
+    let t = c .before .before .before .before .before .before .before .before .before .step-at .ensures in
+    let s = c .before .before .before .before .step-range in (
+      walked-more passed stopped (now (a .steps)) (a .n) (l .ranges) (l .i) (l .inv .0) (omega arith) (omega arith) _ t _ _ (Doubles (record { low = nan; high = nan })) f g _ (s .ensures .0) _ (c .before .before .r .given .1) (s .ensures .1),
+      marked-more (now (a .steps)) (l .ranges) (l .marks) (l .i) (l .inv .1) (omega arith) (l .inv .0 .filled .long) _ t _ _ _ _ f g _ _ (c .step-mark .ensures),
+    )
 
 loop2-holds : tie.Need-loop2-holds Inv-loop μ-loop Inv-loop2 μ-loop2
-loop2-holds c = (omega arith, lines-none (c .before .loop .ranges) (now (c .before .before .before .before .args .bytes)))
+loop2-holds c = (omega arith, lines-none (c .before .loop .ranges) _ (now (c .before .before .before .before .args .bytes)))
 
 mul-r : tie.Need-mul-r Inv-loop μ-loop Inv-loop2 μ-loop2
 mul-r c = omega arith
@@ -113,6 +134,9 @@ array-copy-out-r c = omega arith
 
 mul-at : tie.Need-mul-at Inv-loop μ-loop Inv-loop2 μ-loop2
 mul-at c = omega arith
+
+array-read-write-line : tie.Need-array-read-write-line Inv-loop μ-loop Inv-loop2 μ-loop2
+array-read-write-line c = omega (arith, c .before .before .before .before .loop .inv .1 .filled .long)
 
 add-write-line : tie.Need-add-write-line Inv-loop μ-loop Inv-loop2 μ-loop2
 add-write-line c = omega arith
@@ -128,15 +152,15 @@ part-write-line-end c =
     let a = c .before .before .before .before .before .before .before .args in
     let l = c .before .before .before .before .loop in
     let k = c .before .before .loop2 in
-    let w = l .inv .filled .long in
-    let h : length (k .bytes) ≡ length (now (a .bytes)) = rw (k .inv .1) (lines-length (l .ranges) (now (a .bytes)) (k .j) (omega arith) (omega arith)) in
+    let w = l .inv .0 .filled .long in
+    let h : length (k .bytes) ≡ length (now (a .bytes)) = rw (k .inv .1) (lines-length (l .ranges) _ (now (a .bytes)) (k .j) (omega arith) (omega arith)) in
     omega arith
 
 write-line-requires : tie.Need-write-line-requires Inv-loop μ-loop Inv-loop2 μ-loop2
 write-line-requires c κs =
     let a = c .before .before .before .before .before .before .before .before .args in
     let l = c .before .before .before .before .before .loop in
-    (c .write-line-arg .given .2 ∙ omega arith, fetch-real passed stopped (now (a .steps)) (a .n) (l .ranges) (l .i) (l .inv) _ _ (omega arith))
+    (c .write-line-arg .given .2 ∙ omega arith, omega arith, fetch-real passed stopped (now (a .steps)) (a .n) (l .ranges) (l .i) (l .inv .0) _ _ (omega arith))
 
 add-j : tie.Need-add-j Inv-loop μ-loop Inv-loop2 μ-loop2
 add-j c = omega arith
@@ -149,26 +173,28 @@ loop2-again c =
     let a = c .before .before .before .before .before .before .before .before .before .before .before .args in
     let l = c .before .before .before .before .before .before .before .before .loop in
     let k = c .before .before .before .before .before .before .loop2 in
-    let w = l .inv .filled .long in
-    (omega arith, rw (k .inv .1, c .before .before .write-line .ensures) (lines-next (l .ranges) (now (a .bytes)) (k .j) (Doubles (record { low = nan; high = nan })) (k .j * sheetLine + sheetLine - k .j * sheetLine) (omega arith) (omega arith)))
+    let w = l .inv .0 .filled .long in
+    (omega arith, rw (k .inv .1, c .before .before .write-line .ensures) (lines-next (l .ranges) _ (now (a .bytes)) (k .j) (Doubles (record { low = nan; high = nan })) (k .j * sheetLine + sheetLine - k .j * sheetLine) _ (omega arith) (omega arith) (mark-at (now (a .steps)) (l .ranges) (l .marks) (l .i) (l .inv .1) (k .j) (a .n) _ (omega arith) (omega arith))))
 
 same-length : tie.Need-same-length Inv-loop μ-loop Inv-loop2 μ-loop2
 same-length c =
     let a = c .before .before .before .before .before .before .args in
     let l = c .before .before .before .loop in
     let k = c .before .loop2 in
-    let w = l .inv .filled .long in
-    rw (k .inv .1) (lines-length (l .ranges) (now (a .bytes)) (k .j) (omega arith) (omega arith))
+    let w = l .inv .0 .filled .long in
+    rw (k .inv .1) (lines-length (l .ranges) _ (now (a .bytes)) (k .j) (omega arith) (omega arith))
 
 returns-2 : tie.Need-returns-2 Inv-loop μ-loop Inv-loop2 μ-loop2
+unfolding marked
 returns-2 c =
     let a = c .before .before .before .before .before .before .args in
     let l = c .before .before .before .loop in
     let k = c .before .loop2 in
-    let w = l .inv .filled .long in
+    let w = l .inv .0 .filled .long in
     let e : k .j ≡ a .n = omega arith in
     let m : length (map seenRange (take (a .n) (l .ranges))) ≡ a .n = length-map (take (a .n) (l .ranges)) seenRange ∙ length-take-le (a .n) (l .ranges) (omega arith) in
-    rw (walked-done passed stopped (now (a .steps)) (a .n) (l .ranges) (l .i) (l .inv) (omega arith)) (rw m, rw (k .inv .1, e) (all-lines (l .ranges) (a .n) (now (a .bytes)) (omega arith)))
+    let s = marks-done (now (a .steps)) (l .ranges) (l .marks) (l .i) (l .inv .1) (a .n) (omega arith) in
+    rw (walked-done passed stopped (now (a .steps)) (a .n) (l .ranges) (l .i) (l .inv .0) (omega arith), s) (rw m, rw (k .inv .1, e) (all-lines (l .ranges) _ (a .n) (now (a .bytes)) (omega arith)))
 
 pub write-sheet-spec : {M : Type 1} → statement M
 write-sheet-spec =
@@ -189,11 +215,15 @@ write-sheet-spec =
     step-range-requires
     enum-known-r
     enum-known-number
-    cast-t28
+    cast-t30
     refusal-at-requires
     returns
+    array-read-step-mark
+    array-read-step-mark-2
+    step-mark-requires
     mul-ranges
     array-set-from-ranges
+    array-write-marks
     add-i
     loop-less
     loop-again
@@ -201,6 +231,7 @@ write-sheet-spec =
     mul-r
     array-copy-out-r
     mul-at
+    array-read-write-line
     add-write-line
     sub-write-line
     part-write-line-start

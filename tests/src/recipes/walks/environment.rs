@@ -4,11 +4,12 @@ use crate::environment::{leaves_a_trace, ENVIRONMENTS};
 use crate::patterns::Random;
 use crate::recipes::comparison::Outcome;
 use crate::recipes::faults::damaged;
+use crate::recipes::growing::grow_marked;
 use crate::recipes::Call;
 use crate::reference::recipe::Way;
 
-/// Calls that are answered, calls with a fault, and recipes in which zeros of both signs meet, by
-/// turns.
+/// Calls that are answered, calls with a fault, recipes whose sheets have many marks, and recipes in
+/// which zeros of both signs meet, by turns.
 fn calls<C: Call>(seed: u64, rounds: usize) -> Vec<C> {
     let mut random = Random::new(seed);
     let mut calls = Vec::new();
@@ -16,6 +17,8 @@ fn calls<C: Call>(seed: u64, rounds: usize) -> Vec<C> {
         for &fault in C::REFUSALS {
             calls.push(damaged(&mut random, &[]).0);
             calls.push(damaged(&mut random, &[fault]).0);
+            let plan = random.plan();
+            calls.push(C::of(&grow_marked(&mut random, &plan).0));
             calls.push(C::of(&random.meeting()));
         }
     }

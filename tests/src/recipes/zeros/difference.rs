@@ -64,6 +64,8 @@ pub fn of_sheet(call: &SheetCall) -> Result<Both, String> {
     both(call, |steps, [before, now]| {
         let kinds = [&before, &now].map(|sheet| sheet.iter().map(|shown| shown.kind).collect());
         expect_kinds(steps, kinds)?;
+        let marks = [&before, &now].map(|sheet| sheet.iter().map(|shown| shown.mark).collect());
+        expect_same_marks(marks)?;
         let (lows, highs): (Vec<[u64; 2]>, Vec<[u64; 2]>) = (before.iter().zip(&now))
             .map(|(before, now)| {
                 let (before, now) = (before.range, now.range);
@@ -119,6 +121,14 @@ fn expect_kinds(steps: &[Step], kinds: [Vec<Kind>; 2]) -> Result<(), String> {
     match kinds.iter().all(|kinds| *kinds == expected) {
         true => Ok(()),
         false => Err(format!("kinds {kinds:?}, expected {expected:?}")),
+    }
+}
+
+/// The marks of W-203 are the same by both rules: no mark depends on a zero's sign.
+fn expect_same_marks([before, now]: [Vec<bool>; 2]) -> Result<(), String> {
+    match before == now {
+        true => Ok(()),
+        false => Err(format!("marks {before:?}, by W-202 {now:?}")),
     }
 }
 
@@ -235,6 +245,13 @@ mod tests {
         assert_eq!(fates(&highs, &lows), Ok(expected));
         // From the same end there is nothing that the negated one could come from.
         assert!(fates(&highs, &highs).is_err());
+    }
+
+    #[test]
+    fn marks_are_the_same() {
+        let marks = vec![true, false];
+        assert!(expect_same_marks([marks.clone(), marks.clone()]).is_ok());
+        assert!(expect_same_marks([marks, vec![true, true]]).is_err());
     }
 
     #[test]

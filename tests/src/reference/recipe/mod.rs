@@ -1,15 +1,16 @@
 //! Recipes, their runs, their sheets, and why they are turned down: "Recipe text" and "Turning text
-//! down" of document 01 and request W-205, rule by rule.
+//! down" of document 01 and requests W-203 and W-205, rule by rule.
 //!
 //! `operations` is the table of steps, said once; `text` turns recipe text into steps, `frame`
 //! reads the inputs, `run` works the steps, and `lines` does so for one frame line after the other.
-//! `ranges` has the range rules, `sheet` works them step by step and writes them down, `explain`
-//! tells which fact about them a refusal comes from. Doubles and whole numbers travel as words of 64
-//! bits, and a step's kind tells which of the two its word is.
+//! `ranges` has the range rules, `marks` the rule for the marks beside them, `sheet` works both step by
+//! step and writes them down, `explain` tells which fact about the ranges a refusal comes from. Doubles
+//! and whole numbers travel as words of 64 bits, and a step's kind tells which of the two its word is.
 
 pub mod explain;
 pub mod frame;
 pub mod lines;
+pub mod marks;
 pub mod operations;
 pub mod ranges;
 pub mod run;

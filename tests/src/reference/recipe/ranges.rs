@@ -20,6 +20,11 @@ impl Range {
         Range { low, high }
     }
 
+    /// Whether it holds one number alone. The zeros are one, in either order.
+    pub fn is_one_number(&self, way: Way, kind: Kind) -> bool {
+        kind.compare(way, self.low, self.high) == Ordering::Equal
+    }
+
     /// Whether a word is not a NaN and, as a number, neither below low nor above high.
     pub fn holds(&self, way: Way, kind: Kind, word: u64) -> bool {
         !kind.is_nan(word)

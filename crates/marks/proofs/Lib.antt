@@ -1,0 +1,2 @@
+-- The laws of `marks`.
+pub mod Rule
