@@ -3,10 +3,10 @@
 ghost use mathlib.Core.Path.{_≡_};
 ghost use lib.ListN.{length};
 ghost use Rattle.programs.specs.Batch.{refused, answerOf, bytesOf, batchOf};
+use output::LINE;
 use programs::LinesAnswer;
 use reader::read;
 use recipe::MOST_WORDS;
-use stream::LINE;
 use stream::answer_lines;
 
 // The answer of a refusal.

@@ -3,8 +3,8 @@
 // standard output not be written, it says so on standard error.
 //
 // No more than 4,993 bytes are read: a text that long is refused by its length, however it goes on.
+use output::LINE;
 use programs::LOOKED_AT;
-use stream::LINE;
 
 fn main() {
     if stdio::refuses_arguments(b"usage: explain <recipe >explanation (no argument is taken)\n") {
@@ -18,7 +18,7 @@ fn main() {
         return;
     }
     let n = got.count;
-    let size = stream::write_explanation(&text[..n], &mut output);
+    let size = output::write_explanation(&text[..n], &mut output);
     if !stdio::write_last(&output[..size]) {
         os::fail(b"explain: the explanation is incomplete: cannot write standard output");
     }

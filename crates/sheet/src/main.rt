@@ -17,7 +17,7 @@ fn main() {
         return;
     }
     let n = got.count;
-    let size = stream::write_sheet(&text[..n], &mut output);
+    let size = output::write_sheet(&text[..n], &mut output);
     if !stdio::write_last(&output[..size]) {
         os::fail(b"sheet: the sheet is incomplete: cannot write standard output");
     }

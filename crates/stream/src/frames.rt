@@ -8,9 +8,9 @@ ghost use Rattle.recipe.specs.declared.Step.{Step};
 ghost use Rattle.recipe.specs.Answer.{Holds};
 ghost use Rattle.programs.specs.Output.{frameLine};
 ghost use Rattle.programs.specs.Stage.{NoFeed, Kept, LineEnd, Answered, Handled, between, Untouched};
-use super::answer::LINE;
-use super::answer::frame_line;
-use super::answer::refusal_line;
+use output::LINE;
+use output::frame_line;
+use output::refusal_line;
 use programs::Lines;
 
 // What a piece of a chunk came to: the place after it, the bytes kept of the line that it ends in, and the bytes put out.

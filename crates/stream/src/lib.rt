@@ -12,24 +12,18 @@ ghost use Rattle.recipe.specs.Text.{short, mostSteps, readText};
 ghost use Rattle.recipe.specs.Answer.{Says, Holds};
 ghost use Rattle.programs.specs.Output.{lookedAt, onRecipe};
 ghost use Rattle.programs.specs.Stage.{Reading, heading, running, isDone, NoFeed, Kept, Stands, Standing, Fed, Finished, between, Untouched};
-use answer::refusal_line;
 use frames::kept_line;
 use frames::take_lines;
 use head::take_recipe;
+use output::refusal_line;
 use programs::End;
 use programs::Stage;
 use programs::State;
 
-mod answer;
-mod explain;
 mod frames;
 mod head;
-mod sheet;
 
-pub use answer::LINE;
-pub use explain::write_explanation;
 pub use frames::answer_lines;
-pub use sheet::write_sheet;
 
 // What feeding came to: the state after it, the place in the chunk up to which it is used, and the bytes put out.
 pub struct Progress {

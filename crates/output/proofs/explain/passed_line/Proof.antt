@@ -7,10 +7,10 @@ use lib.Seq.{length-take-le}
 use denote.Ref.{now}
 use Rattle.hex.specs.Hex.{digits}
 use Rattle.hex.proofs.Digits.{length-digits}
-use Rattle.stream.proofs.Written.{passed-written, passed-rest}
+use Rattle.output.proofs.Written.{passed-written, passed-rest}
 use borrow.Author.Needs.{needs}
-use Rattle.stream.proofs.explain.passed_line.Statement.{statement}
-use Rattle.stream.proofs.explain.passed_line.Tie as tie
+use Rattle.output.proofs.explain.passed_line.Statement.{statement}
+use Rattle.output.proofs.explain.passed_line.Tie as tie
 
 slice-relend-prefix-write : tie.Need-slice-relend-prefix-write
 slice-relend-prefix-write c = search needs

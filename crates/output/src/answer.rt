@@ -28,7 +28,7 @@ pub(crate) fn fields_line(x: u64, y: u64, z: u64, out: &mut [u8]) -> usize
 }
 
 // The same of a refusal.
-pub(crate) fn refusal_line(number: u64, place: u64, out: &mut [u8]) -> usize
+pub fn refusal_line(number: u64, place: u64, out: &mut [u8]) -> usize
     requires { ⌜ 19 ≤ length (now out) ⌝ }
     ensures { λ r. ⌜ Put (refusalLine number place) r (now (out .entry)) (now (out .exit)) ⌝ }
 {
@@ -50,7 +50,7 @@ fn answer_line(a: RunAnswer, out: &mut [u8]) -> usize
 }
 
 // The same of a frame line, its line feed left out, for the steps in these words. Refuses 30 where it is longer than the longest frame.
-pub(crate) fn frame_line(steps: &[u64], line: &[u8], out: &mut [u8]) -> usize
+pub fn frame_line(steps: &[u64], line: &[u8], out: &mut [u8]) -> usize
     requires { ⌜ 19 ≤ length (now out) ⌝ }
     ensures { λ r. ⌜ (r ≤ 19) × (
         (l : List Step) → Holds l (now (steps .entry)) → take r (now (out .exit)) ≡ frameLine l (now (line .entry)))

@@ -8,9 +8,9 @@ use denote.Ref.{now}
 use borrow.Author.Needs.{needs}
 use Rattle.hex.specs.Hex.{digits}
 use Rattle.hex.proofs.Digits.{length-digits}
-use Rattle.stream.proofs.Written.{fields-written, fields-same, fields-rest}
-use Rattle.stream.proofs.answer.fields_line.Statement.{statement}
-use Rattle.stream.proofs.answer.fields_line.Tie as tie
+use Rattle.output.proofs.Written.{fields-written, fields-same, fields-rest}
+use Rattle.output.proofs.answer.fields_line.Statement.{statement}
+use Rattle.output.proofs.answer.fields_line.Tie as tie
 
 slice-relend-prefix-write : tie.Need-slice-relend-prefix-write
 slice-relend-prefix-write c = search needs

@@ -4,8 +4,8 @@ use denote.Ref.{now}
 use borrow.Author.Needs.{needs}
 use Rattle.programs.specs.Output.{answerLine}
 use Rattle.programs.proofs.Answers.{frame-long, frame-short}
-use Rattle.stream.proofs.answer.frame_line.Statement.{statement}
-use Rattle.stream.proofs.answer.frame_line.Tie as tie
+use Rattle.output.proofs.answer.frame_line.Statement.{statement}
+use Rattle.output.proofs.answer.frame_line.Tie as tie
 
 refusal-line-requires : tie.Need-refusal-line-requires
 refusal-line-requires c κs = search needs

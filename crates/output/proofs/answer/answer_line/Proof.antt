@@ -9,9 +9,9 @@ use borrow.Author.Needs.{needs}
 use Rattle.hex.specs.Hex.{digits}
 use Rattle.hex.proofs.Digits.{length-digits}
 use Rattle.programs.proofs.Answers.{answer-refused}
-use Rattle.stream.proofs.Written.{answer-written, answer-same, answer-rest}
-use Rattle.stream.proofs.answer.answer_line.Statement.{statement}
-use Rattle.stream.proofs.answer.answer_line.Tie as tie
+use Rattle.output.proofs.Written.{answer-written, answer-same, answer-rest}
+use Rattle.output.proofs.answer.answer_line.Statement.{statement}
+use Rattle.output.proofs.answer.answer_line.Tie as tie
 
 refusal-line-requires : tie.Need-refusal-line-requires
 refusal-line-requires c κs = search needs

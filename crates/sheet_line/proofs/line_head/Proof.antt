@@ -5,10 +5,10 @@ use Rattle.recipe.specs.declared.Kind.{Kind}
 use Rattle.recipe.specs.Table.{kindNumber}
 use Rattle.semantics.specs.Range.{kindOf}
 use Rattle.ranges.specs.Seen.{seenRange}
-use Rattle.sheets.proofs.Showing.{mark-small}
+use Rattle.sheet_line.proofs.Line.{mark-small}
 use borrow.Author.Needs.{needs}
-use Rattle.sheets.proofs.line_head.Statement.{statement}
-use Rattle.sheets.proofs.line_head.Tie as tie
+use Rattle.sheet_line.proofs.line_head.Statement.{statement}
+use Rattle.sheet_line.proofs.line_head.Tie as tie
 
 kind-requires : tie.Need-kind-requires
 kind-requires c κs = search needs

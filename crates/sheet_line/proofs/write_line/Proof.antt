@@ -7,10 +7,10 @@ use lib.Seq.{length-take-le}
 use denote.Ref.{now}
 use Rattle.hex.specs.Hex.{digits}
 use Rattle.ranges.specs.Seen.{seenRange}
-use Rattle.sheets.proofs.Showing.{line-written}
+use Rattle.sheet_line.proofs.Line.{line-written}
 use borrow.Author.Needs.{needs}
-use Rattle.sheets.proofs.write_line.Statement.{statement}
-use Rattle.sheets.proofs.write_line.Tie as tie
+use Rattle.sheet_line.proofs.write_line.Statement.{statement}
+use Rattle.sheet_line.proofs.write_line.Tie as tie
 
 line-head-requires : tie.Need-line-head-requires
 line-head-requires c κs = search needs

@@ -1,9 +1,9 @@
 -- `refusal_line` meets its contract. Assumes nothing.
 use mathlib.Core.Path.{_∙_}
-use Rattle.stream.proofs.Written.{refusal-is}
+use Rattle.output.proofs.Written.{refusal-is}
 use borrow.Author.Needs.{needs}
-use Rattle.stream.proofs.answer.refusal_line.Statement.{statement}
-use Rattle.stream.proofs.answer.refusal_line.Tie as tie
+use Rattle.output.proofs.answer.refusal_line.Statement.{statement}
+use Rattle.output.proofs.answer.refusal_line.Tie as tie
 
 fields-line-requires : tie.Need-fields-line-requires
 fields-line-requires c κs = search needs

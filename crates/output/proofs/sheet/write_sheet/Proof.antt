@@ -3,10 +3,10 @@ use mathlib.Core.Path.{ap, _∙_}
 use native.Mathlib.Omega.{arith}
 use lib.ListN.{length, drop}
 use denote.Ref.{now}
-use Rattle.stream.proofs.Sheets.{sheet-refused, sheet-few, sheet-written, sheet-unwritten, sheet-rest}
+use Rattle.output.proofs.Sheets.{sheet-refused, sheet-few, sheet-written, sheet-unwritten, sheet-rest}
 use borrow.Author.Needs.{needs}
-use Rattle.stream.proofs.sheet.write_sheet.Statement.{statement}
-use Rattle.stream.proofs.sheet.write_sheet.Tie as tie
+use Rattle.output.proofs.sheet.write_sheet.Statement.{statement}
+use Rattle.output.proofs.sheet.write_sheet.Tie as tie
 
 sheet-requires : tie.Need-sheet-requires
 sheet-requires c κs = search needs

@@ -3,8 +3,8 @@ use mathlib.Core.Path.{_∙_}
 use denote.Ref.{now}
 use Rattle.programs.proofs.Explanations.{line-refused, line-named, line-passed}
 use borrow.Author.Needs.{needs}
-use Rattle.stream.proofs.explain.write_explanation.Statement.{statement}
-use Rattle.stream.proofs.explain.write_explanation.Tie as tie
+use Rattle.output.proofs.explain.write_explanation.Statement.{statement}
+use Rattle.output.proofs.explain.write_explanation.Tie as tie
 
 explain-requires : tie.Need-explain-requires
 explain-requires c κs = search needs

@@ -1,0 +1,2 @@
+-- The laws of `sheet_line`.
+pub mod Line
