@@ -8,15 +8,12 @@ use native.Mathlib.Omega.{arith}
 use lib.ListN.{length, take, drop, getD, length-append}
 use lib.Seq.{take-at, drop-nil}
 use Rattle.hex.proofs.Digits.{length-digits}
-use Rattle.recipe.specs.declared.Step.{Step}
 use Rattle.recipe.specs.Text.{mostSteps}
-use Rattle.semantics.specs.Range.{Range, Ranged, ranged}
-use Rattle.semantics.specs.Range as range
+use Rattle.semantics.specs.Range.{Range}
 use Rattle.semantics.specs.Mark.{noMark}
-use Rattle.semantics.specs.Sheet.{passed, stepOn, onRanged, sheetFrom}
 use Rattle.semantics.specs.Shown.{Shown, shown, refused, sheetLine, longestSheet, sheetOf, answerOf, lineOf, linesFrom, bytesOf}
-use Rattle.semantics.proofs.Sound.Kept.{never}
 use Rattle.semantics.proofs.Calls.{sheet-passes-no-other}
+use Rattle.semantics.proofs.SheetWorked.{sheet-worked}
 
 -- ---- a line, and line after line
 
@@ -42,23 +39,10 @@ module _ (ms : List Bool) where
 
 -- ---- one line per step
 
-by-ranged : (t : Step) (ts : List Step) (k : ℕ) (l r : List Range)
-    → ((x : Range) → sheetFrom ts (suc k) (l ++ (x ∷ [])) ≡ passed r → length r ≡ length (l ++ (x ∷ [])) + length ts)
-    → (o : Ranged) → onRanged o k (λ x. sheetFrom ts (suc k) (l ++ (x ∷ []))) ≡ passed r → length r ≡ length l + length (t ∷ ts)
-unfolding onRanged
-by-ranged t ts k l r more (ranged x) e = let f = more x e in let g : length (l ++ (x ∷ [])) ≡ length l + 1 = length-append l (x ∷ []) in omega arith
-by-ranged t ts k l r more (range.refused number) e = never (cc)
-
-from-length : (ts : List Step) (k : ℕ) (l r : List Range) → sheetFrom ts k l ≡ passed r → length r ≡ length l + length ts
-unfolding sheetFrom
-from-length [] k l r e = let q : l ≡ r = cc in ap length (sym q) ∙ omega arith
-from-length (t ∷ ts) k l r e = by-ranged t ts k l r (λ x h. from-length ts (suc k) (l ++ (x ∷ [])) r h) (stepOn t l) e
-
 few : (t : List ℕ) (r : List Range) (ms : List Bool) → sheetOf t longestSheet ≡ shown r ms → length r ≤ mostSteps
 few t r ms h =
     let s = sheet-passes-no-other t longestSheet r ms h in
-    let f = from-length (s .list) 0 [] r (s .passes) in
-    omega (arith, s .fits)
+    omega (arith, s .fits, sheet-worked (s .list) r (s .passes) .count)
 
 -- ---- the sheet
 

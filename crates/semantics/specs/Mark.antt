@@ -29,11 +29,11 @@ markRule opcode r a b =
     cond (isWhole r || eqb opcode 0x32) true
     -- 01, 03: an input of one number, and a constant, where that is finite and integral
     (cond (eqb opcode 0x01 || eqb opcode 0x03) (oneNumber r && isIntegral binary64 (low r))
-    -- 10 to 14, the roundings
+    -- 10 to 14, the roundings: where both ends are finite
     (cond (within 0x10 0x14 opcode) (not (infiniteEnd r))
-    -- 16, 17: fabs and negate
+    -- 16, 17: fabs and negate keep it
     (cond (within 0x16 0x17 opcode) a
-    -- 20 to 22: fmin, fmax and fmod
+    -- 20 to 22: fmin, fmax and fmod have it when both operands do; all others lack it
     (cond (within 0x20 0x22 opcode) (a && b) false))))
 
 -- ---- the marks of a recipe
