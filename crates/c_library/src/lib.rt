@@ -4,6 +4,8 @@ use float_format::Binary64;
 use float_format::Word16;
 use float_format::Word32;
 use float_format::Word64;
+use nearest_remainder::Remquo32;
+use nearest_remainder::Remquo64;
 use programs::LinesAnswer;
 use scaling::Frexp32;
 use scaling::Frexp64;
@@ -22,6 +24,7 @@ ghost use Rattle.conversion.specs.Conversion.{converted, convertedRefusal};
 ghost use Rattle.splitting.specs.Splitting.{modfWhole, modfFraction};
 ghost use Rattle.scaling.specs.Scaling.{frexpFraction, frexpExponent, ldexp, ldexpRefusal};
 ghost use Rattle.remainder.specs.Remainder.{fmod, fmodRefusal};
+ghost use Rattle.nearest_remainder.specs.Nearest.{remainder, remquoQuotient};
 ghost use Rattle.ordering.specs.Ordering.{nextafter, nextafterRefusal, fmin, fmax};
 ghost use Rattle.recipe.specs.declared.Step.{Step};
 ghost use Rattle.recipe.specs.Text.{short, steps, readText};
@@ -264,6 +267,34 @@ pub extern "C" fn ew_fmod_f32(x: u32, y: u32) -> Word32
     ensures { λ r. ⌜ (r .word ≡ fmod binary32 x y) × (r .refusal ≡ fmodRefusal binary32 x y) ⌝ }
 {
     remainder::binary32::fmod(x, y)
+}
+
+#[no_mangle]
+pub extern "C" fn ew_remainder_f64(x: u64, y: u64) -> Word64
+    ensures { λ r. ⌜ (r .word ≡ remainder binary64 x y) × (r .refusal ≡ fmodRefusal binary64 x y) ⌝ }
+{
+    nearest_remainder::binary64::remainder(x, y)
+}
+
+#[no_mangle]
+pub extern "C" fn ew_remainder_f32(x: u32, y: u32) -> Word32
+    ensures { λ r. ⌜ (r .word ≡ remainder binary32 x y) × (r .refusal ≡ fmodRefusal binary32 x y) ⌝ }
+{
+    nearest_remainder::binary32::remainder(x, y)
+}
+
+#[no_mangle]
+pub extern "C" fn ew_remquo_f64(x: u64, y: u64) -> Remquo64
+    ensures { λ r. ⌜ (r .word ≡ remainder binary64 x y) × (r .quotient ≡ remquoQuotient binary64 x y) × (r .refusal ≡ fmodRefusal binary64 x y) ⌝ }
+{
+    nearest_remainder::binary64::remquo(x, y)
+}
+
+#[no_mangle]
+pub extern "C" fn ew_remquo_f32(x: u32, y: u32) -> Remquo32
+    ensures { λ r. ⌜ (r .word ≡ remainder binary32 x y) × (r .quotient ≡ remquoQuotient binary32 x y) × (r .refusal ≡ fmodRefusal binary32 x y) ⌝ }
+{
+    nearest_remainder::binary32::remquo(x, y)
 }
 
 #[no_mangle]

@@ -32,22 +32,22 @@ module _ (f : Format) (x : ℕ) where
           let q : 1 ≤ unsigned f x / 2 ^ f .fraction = le-div-iff-mul-le (pow-pos (f .fraction)) .1 (omega arith) in
           simp (ne-eqb (unsigned f x / 2 ^ f .fraction) 0 (omega arith), ne-eqb (unsigned f x) 0 (omega (arith, pow-pos (f .fraction))))
 
-  is-nan : infinity f < unsigned f x → isNan f x ≡ true
+  pub is-nan : infinity f < unsigned f x → isNan f x ≡ true
   is-nan l = nan-is f x ∙ lt-ltb (infinity f) (unsigned f x) l
 
-  no-nan : unsigned f x ≤ infinity f → isNan f x ≡ false
+  pub no-nan : unsigned f x ≤ infinity f → isNan f x ≡ false
   no-nan l = nan-is f x ∙ le-ltb (infinity f) (unsigned f x) l
 
-  is-infinite : unsigned f x ≡ infinity f → isInfinite f x ≡ true
+  pub is-infinite : unsigned f x ≡ infinity f → isInfinite f x ≡ true
   is-infinite e = infinite-is f x ∙ eq-eqb (unsigned f x) (infinity f) e
 
-  not-infinite : unsigned f x < infinity f → isInfinite f x ≡ false
+  pub not-infinite : unsigned f x < infinity f → isInfinite f x ≡ false
   not-infinite l = infinite-is f x ∙ ne-eqb (unsigned f x) (infinity f) (omega arith)
 
-  is-zero : unsigned f x ≡ 0 → isZero f x ≡ true
+  pub is-zero : unsigned f x ≡ 0 → isZero f x ≡ true
   is-zero e = zero-is ∙ eq-eqb (unsigned f x) 0 e
 
-  not-zero : 0 < unsigned f x → isZero f x ≡ false
+  pub not-zero : 0 < unsigned f x → isZero f x ≡ false
   not-zero l = zero-is ∙ ne-eqb (unsigned f x) 0 (omega arith)
 
 -- ---- the five cases, each with its refusal
@@ -56,7 +56,7 @@ pub record Answers (f : Format) (x y word refusal : ℕ) : Type 0 where
   pub is : fmod f x y ≡ word
   pub refuses : fmodRefusal f x y ≡ refusal
 
-different : {P : Type 0} → true ≡ false → P
+pub different : {P : Type 0} → true ≡ false → P
 different e =
     let never : _≡_ {A = ℕ} 0 1 = cc in
     absurd (omega arith)
@@ -122,25 +122,22 @@ module _ (f : Format) (x y : ℕ) where
           let z : isSpecial f x y ≡ false = simp (lt-leb (infinity f) (unsigned f x) hx, lt-leb (infinity f) (unsigned f y) l, ne-eqb (unsigned f y) 0 nz) in
           different (sym s ∙ z)
 
-  pub ordinary : InWord f → 19 ≤ f .fraction → f .fraction ≤ 52 → x < 2 * signBit f → isSpecial f x y ≡ false → Ordinary f x y
-  ordinary w least most p s =
+  pub finite-nonzero : isSpecial f x y ≡ false → (unsigned f x < infinity f) × (unsigned f y < infinity f) × (0 < unsigned f y)
+  finite-nonzero s =
       go (leb (infinity f) (unsigned f x)) (leb (infinity f) (unsigned f y)) (eqb (unsigned f y) 0) refl refl refl s
     where
       go : (i j k : Bool) → leb (infinity f) (unsigned f x) ≡ i → leb (infinity f) (unsigned f y) ≡ j → eqb (unsigned f y) 0 ≡ k
-          → (i || j || k) ≡ false → Ordinary f x y
+          → (i || j || k) ≡ false → (unsigned f x < infinity f) × (unsigned f y < infinity f) × (0 < unsigned f y)
       go false false false ei ej ek e =
-          record {
-            word = w;
-            least = least;
-            most = most;
-            pattern = p;
-            finite-x = leb-false (infinity f) (unsigned f x) ei;
-            finite-y = leb-false (infinity f) (unsigned f y) ej;
-            nonzero = omega (arith, eqb-false (unsigned f y) 0 ek);
-          }
+          (leb-false (infinity f) (unsigned f x) ei, leb-false (infinity f) (unsigned f y) ej, omega (arith, eqb-false (unsigned f y) 0 ek))
       go true j k ei ej ek e = different e
       go false true k ei ej ek e = different e
       go false false true ei ej ek e = different e
+
+  pub ordinary : InWord f → 19 ≤ f .fraction → f .fraction ≤ 52 → x < 2 * signBit f → isSpecial f x y ≡ false → Ordinary f x y
+  ordinary w least most p s =
+      let h : (unsigned f x < infinity f) × (unsigned f y < infinity f) × (0 < unsigned f y) = finite-nonzero s in
+      record { word = w; least = least; most = most; pattern = p; finite-x = h .0; finite-y = h .1; nonzero = h .2 }
 
   -- x itself, where it is the smaller: t is the code's test
   pub smaller-returns : {t : Bool} → Ordinary f x y → t ≡ ltb (unsigned f x) (unsigned f y) → t ≡ true

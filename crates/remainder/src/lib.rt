@@ -36,7 +36,7 @@ fn corrected(n: u64, quotient: u64, d: u64) -> u64
 }
 
 // The leading 20 bits of d, rounded up, so that what is divided by them is never too much.
-fn top_of(fraction: u64, d: u64) -> u64
+pub fn top_of(fraction: u64, d: u64) -> u64
     requires { ⌜ (19 ≤ fraction) × (fraction ≤ 52) × (d < 2 * 2 ^ fraction) ⌝ }
     ensures { λ r. ⌜ (r ≡ topOf fraction d) × (r ≤ 2 ^ 20) ⌝ }
 {
@@ -97,7 +97,7 @@ fn remainder_by(fraction: u64, m: u64, n: u64, w: u64) -> u64
 // ---- patterns
 
 // One less than the exponent field of a, a pattern without its sign, and 0 where that is 0.
-fn scale(fraction: u64, a: u64) -> u64
+pub fn scale(fraction: u64, a: u64) -> u64
     requires { ⌜ fraction < 64 ⌝ }
     ensures { λ r. ⌜ r ≡ scaleOf fraction a ⌝ }
 {
@@ -106,7 +106,7 @@ fn scale(fraction: u64, a: u64) -> u64
 }
 
 // a stands for that number of units, times 2^scale: with no case for a subnormal, whose scale is 0.
-fn significand(fraction: u64, a: u64) -> u64
+pub fn significand(fraction: u64, a: u64) -> u64
     requires { ⌜ fraction < 62 ⌝ }
     ensures { λ r. ⌜ r ≡ a - scaleOf fraction a * 2 ^ fraction ⌝ }
 {
@@ -114,7 +114,7 @@ fn significand(fraction: u64, a: u64) -> u64
 }
 
 // Whether an operand is not finite, or y is zero.
-fn special(fraction: u64, exponent: u64, x: u64, y: u64) -> bool
+pub fn special(fraction: u64, exponent: u64, x: u64, y: u64) -> bool
     requires { ⌜ InWord (format fraction exponent) ⌝ }
     ensures { λ r. ⌜ r ≡ isSpecial (format fraction exponent) x y ⌝ }
 {
@@ -126,7 +126,7 @@ fn special(fraction: u64, exponent: u64, x: u64, y: u64) -> bool
 
 // What is answered there: the first NaN quieted, refusal 2 with the default NaN, or x where only y is infinite. `nan` is that default NaN,
 // which each width has as a constant.
-fn special_answer(fraction: u64, exponent: u64, nan: u64, x: u64, y: u64) -> Word64
+pub fn special_answer(fraction: u64, exponent: u64, nan: u64, x: u64, y: u64) -> Word64
     requires { ⌜ InWord (format fraction exponent) × (x < 2 * signBit (format fraction exponent)) × (y < 2 * signBit (format fraction exponent)) × (isSpecial (format fraction exponent) x y ≡ true) × (nan ≡ defaultNan (format fraction exponent)) ⌝ }
     ensures { λ r. ⌜ (r .word ≡ fmod (format fraction exponent) x y) × (r .refusal ≡ fmodRefusal (format fraction exponent) x y) × (r .word < 2 * signBit (format fraction exponent)) ⌝ }
 {
@@ -158,7 +158,7 @@ fn special_answer(fraction: u64, exponent: u64, nan: u64, x: u64, y: u64) -> Wor
 }
 
 // Whether both are subnormal or zero: their patterns without the signs are then their numbers of units.
-fn are_units(fraction: u64, exponent: u64, x: u64, y: u64) -> bool
+pub fn are_units(fraction: u64, exponent: u64, x: u64, y: u64) -> bool
     requires { ⌜ InWord (format fraction exponent) ⌝ }
     ensures { λ r. ⌜ r ≡ areUnits (format fraction exponent) x y ⌝ }
 {

@@ -1,0 +1,2 @@
+-- What the contracts of products modulo a number cite.
+pub mod Modulus

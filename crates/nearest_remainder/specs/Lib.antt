@@ -1,0 +1,3 @@
+-- What the contracts of remainder and remquo cite.
+pub mod Nearest
+pub mod Shape
