@@ -50,7 +50,7 @@ typedef struct {
     operands32 floats, wide;
 } data_set;
 
-enum { TEXTURE, MIXED, SUBNORMAL, SPECIAL, FAR, TO_SUBNORMAL, TO_NORMAL, TOP_HEAVY, HALF_NORMAL, HALF_SUBNORMAL, HALF_ANY, SETS };
+enum { TEXTURE, MIXED, SUBNORMAL, SPECIAL, FAR, TO_SUBNORMAL, TO_NORMAL, TOP_HEAVY, SMALLER, HALF_NORMAL, HALF_SUBNORMAL, HALF_ANY, SETS };
 
 static data_set sets[SETS] = {
     {.name = "texture-like: x in -4096 to 4096, with fractions; y in 0.5 to 64; n in -16 to 16"},
@@ -61,6 +61,7 @@ static data_set sets[SETS] = {
     {.name = "texture-like x; subnormal y, of every size alike; n to a subnormal number"},
     {.name = "subnormal x, of every size alike; n to a normal number"},
     {.name = "subnormal x and y with random fractions: most have their leading one near the top"},
+    {.name = "|x| < |y|: y in 0.5 to 64, x in -y to y"},
     {.name = "normal halves; floats that become such"},
     {.name = "subnormal halves; floats that become such"},
     {.name = "any 16 bits; any 32 bits"},
@@ -183,6 +184,8 @@ static void fill(void)
         set = &sets[TOP_HEAVY];
         put(&set->x64, &set->x32, i, 0, 0);
         put(&set->y64, &set->y32, i, 0, 0);
+        set = &sets[SMALLER];
+        put_between(&set->x64, &set->x32, i, -set->y64.values[i], set->y64.values[i]);
     }
     /* Floats from 2^-14 to 2^15, and from 2^-24 to 2^-14. */
     for (i = 0; i < COUNT; i++) {
@@ -263,14 +266,25 @@ LOOP(scale_values32, sum ^= ew_bits_f32(CALL(ldexp32)(set->x32.values[i], set->n
 
 typedef ew_word64 pair64(uint64_t, uint64_t);
 typedef ew_word32 pair32(uint32_t, uint32_t);
-typedef uint64_t choice64(uint64_t, uint64_t);
-typedef uint32_t choice32(uint32_t, uint32_t);
 typedef double reals64(double, double);
 typedef float reals32(float, float);
 LOOP(pair_patterns64, ew_word64 r = CALL(pair64)(set->x64.bits[i], set->y64.bits[i]); sum ^= r.word ^ r.refusal)
 LOOP(pair_patterns32, ew_word32 r = CALL(pair32)(set->x32.bits[i], set->y32.bits[i]); sum ^= r.word ^ r.refusal)
 LOOP(pair_values64, sum ^= ew_bits_f64(CALL(reals64)(set->x64.values[i], set->y64.values[i])))
 LOOP(pair_values32, sum ^= ew_bits_f32(CALL(reals32)(set->x32.values[i], set->y32.values[i])))
+
+/* Where a library gives a NaN it may leave the quotient as it was. */
+typedef ew_remquo64 quotient64(uint64_t, uint64_t);
+typedef ew_remquo32 quotient32(uint32_t, uint32_t);
+typedef double remquo64(double, double, int *);
+typedef float remquo32(float, float, int *);
+LOOP(remquo_patterns64, ew_remquo64 r = CALL(quotient64)(set->x64.bits[i], set->y64.bits[i]); sum ^= r.word ^ (uint64_t)r.quotient ^ r.refusal)
+LOOP(remquo_patterns32, ew_remquo32 r = CALL(quotient32)(set->x32.bits[i], set->y32.bits[i]); sum ^= r.word ^ (uint64_t)r.quotient ^ r.refusal)
+LOOP(remquo_values64, int q = 0; sum ^= ew_bits_f64(CALL(remquo64)(set->x64.values[i], set->y64.values[i], &q)); sum ^= (uint64_t)q)
+LOOP(remquo_values32, int q = 0; sum ^= ew_bits_f32(CALL(remquo32)(set->x32.values[i], set->y32.values[i], &q)); sum ^= (uint64_t)q)
+
+typedef uint64_t choice64(uint64_t, uint64_t);
+typedef uint32_t choice32(uint32_t, uint32_t);
 LOOP(choice_patterns64, sum ^= CALL(choice64)(set->x64.bits[i], set->y64.bits[i]))
 LOOP(choice_patterns32, sum ^= CALL(choice32)(set->x32.bits[i], set->y32.bits[i]))
 #define choice_values64 pair_values64
@@ -305,6 +319,9 @@ static ALONE uint64_t identity(uint64_t x) { return x; }
     HEADER(name, 64, double, , GIVEN2, ew_double, (x, y), TAKEN(64, r.value); sum ^= r.refusal)                        \
     HEADER(name, 32, float, f, GIVEN2, ew_float, (x, y), TAKEN(32, r.value); sum ^= r.refusal)
 #define STEP REMAINDER
+#define REMQUO(name, ...)                                                                                                                  \
+    HEADER(name, 64, double, , GIVEN2, ew_double_remquo, (x, y), TAKEN(64, r.value); sum ^= (uint64_t)r.quotient ^ r.refusal)              \
+    HEADER(name, 32, float, f, GIVEN2, ew_float_remquo, (x, y), TAKEN(32, r.value); sum ^= (uint64_t)r.quotient ^ r.refusal)
 #define CHOICE(name, ...)                                                                      \
     HEADER(name, 64, double, , GIVEN2, double, (x, y), TAKEN(64, r))                            \
     HEADER(name, 32, float, f, GIVEN2, float, (x, y), TAKEN(32, r))
@@ -315,6 +332,7 @@ FUNCTIONS
 #undef FREXP
 #undef SCALE
 #undef REMAINDER
+#undef REMQUO
 #undef STEP
 #undef CHOICE
 
@@ -333,6 +351,7 @@ FUNCTIONS
 #define FREXP(name, ...) REFERENCES(name)
 #define SCALE(name, ...) REFERENCES(name)
 #define REMAINDER(name, ...) REFERENCES(name)
+#define REMQUO(name, ...) REFERENCES(name)
 #define STEP(name, ...) REFERENCES(name)
 #define CHOICE(name, ...) REFERENCES(name)
 FUNCTIONS
@@ -342,6 +361,7 @@ FUNCTIONS
 #undef FREXP
 #undef SCALE
 #undef REMAINDER
+#undef REMQUO
 #undef STEP
 #undef CHOICE
 
@@ -379,6 +399,7 @@ static struct {
 #define FREXP(name, limit) BOTH(name, frexp, limit, 0, 0, 0)
 #define SCALE(name, limit) BOTH(name, scale, limit, 0, 0, 0)
 #define REMAINDER(name, limit, far) BOTH(name, pair, limit, 0, 0, far)
+#define REMQUO(name, limit, far) BOTH(name, remquo, limit, 0, 0, far)
 #define STEP(name, limit) BOTH(name, pair, limit, 0, 0, 0)
 #define CHOICE(name, limit) BOTH(name, choice, limit, 0, 0, 0)
     FUNCTIONS
@@ -387,13 +408,14 @@ static struct {
 
 enum { ROWS = sizeof rows / sizeof rows[0] };
 
-/* What is asked on subnormal numbers, at both widths: at most `limit` times glibc's time, and at most `normal` times our own on
-   texture-like data (0: nothing). */
+/* What is asked on subnormal numbers and where |x| < |y|, at both widths: at most `limit` times glibc's time, and at most `normal`
+   times our own on texture-like data (0: nothing). From a subnormal divisor the exponents of texture-like numbers lie far apart: of
+   remainder and remquo the same is asked there as on FAR, and in the other cases that they are no slower than glibc's. */
 static const struct {
     const char *name, *what;
     int set;
     double limit, normal;
-} subnormals[] = {
+} cases[] = {
     {"frexp", "subnormal", SUBNORMAL, 0.7, 1.6},
     {"ldexp", "subnormal in", TO_NORMAL, 0.6, 1.6},
     {"ldexp", "subnormal out", TO_SUBNORMAL, 0.6, 1.6},
@@ -401,11 +423,19 @@ static const struct {
     {"fmod", "subnormal divisor", TO_SUBNORMAL, 0.15, 0},
     {"fmod", "both subnormal", SUBNORMAL, 0.15, 0},
     {"fmod", "both, near the top", TOP_HEAVY, 0.15, 0},
+    {"remainder", "subnormal divisor", TO_SUBNORMAL, 0.2, 0},
+    {"remainder", "both subnormal", SUBNORMAL, 1.0, 0},
+    {"remainder", "both, near the top", TOP_HEAVY, 1.0, 0},
+    {"remainder", "|x| < |y|", SMALLER, 1.0, 0},
+    {"remquo", "subnormal divisor", TO_SUBNORMAL, 0.2, 0},
+    {"remquo", "both subnormal", SUBNORMAL, 1.0, 0},
+    {"remquo", "both, near the top", TOP_HEAVY, 1.0, 0},
+    {"remquo", "|x| < |y|", SMALLER, 1.0, 0},
 };
 
-enum { SUBNORMALS = sizeof subnormals / sizeof subnormals[0] };
+enum { CASES = sizeof cases / sizeof cases[0] };
 
-/* Every function takes the sets up to SPECIAL, a remainder FAR, those of `subnormals` what stands there; the last three are for halves. */
+/* Every function takes the sets up to SPECIAL, a remainder FAR, those of `cases` what stands there; the last three are for halves. */
 static int takes(int row, int set)
 {
     int s;
@@ -413,8 +443,8 @@ static int takes(int row, int set)
         return rows[row].width == 16 && set >= HALF_NORMAL;
     if (set <= SPECIAL || (set == FAR && rows[row].far != 0))
         return 1;
-    for (s = 0; s < SUBNORMALS; s++)
-        if (subnormals[s].set == set && strcmp(subnormals[s].name, rows[row].name) == 0)
+    for (s = 0; s < CASES; s++)
+        if (cases[s].set == set && strcmp(cases[s].name, rows[row].name) == 0)
             return 1;
     return 0;
 }
@@ -621,20 +651,20 @@ static int print_targets(void)
     return missed_rows;
 }
 
-static int print_subnormal_targets(void)
+static int print_case_targets(void)
 {
     int s, r, missed_rows = 0;
-    printf("\n%-28s  %14s  %14s\n", "", "/glibc", "/texture");
-    for (s = 0; s < SUBNORMALS; s++)
+    printf("\n%-32s  %14s  %14s\n", "", "/glibc", "/texture");
+    for (s = 0; s < CASES; s++)
         for (r = 0; r < ROWS; r++) {
-            const int set = subnormals[s].set;
+            const int set = cases[s].set;
             int missed;
-            if (rows[r].width == 16 || strcmp(rows[r].name, subnormals[s].name) != 0)
+            if (rows[r].width == 16 || strcmp(rows[r].name, cases[s].name) != 0)
                 continue;
-            printf("f%d %-5s %-18s", rows[r].width, rows[r].name, subnormals[s].what);
-            missed = hold_ratio(r, set, GLIBC, subnormals[s].limit);
-            missed |= hold(subnormals[s].normal == 0 ? NAN : figures_of(r, set).medians[OURS] / figures_of(r, TEXTURE).medians[OURS], "<=",
-                           subnormals[s].normal);
+            printf("f%d %-9s %-18s", rows[r].width, rows[r].name, cases[s].what);
+            missed = hold_ratio(r, set, GLIBC, cases[s].limit);
+            missed |= hold(cases[s].normal == 0 ? NAN : figures_of(r, set).medians[OURS] / figures_of(r, TEXTURE).medians[OURS], "<=",
+                           cases[s].normal);
             printf("  %s\n", missed ? "MISSED" : "target met");
             missed_rows += missed;
         }
@@ -702,11 +732,11 @@ int main(void)
     for (i = HALF_NORMAL; i < SETS; i++)
         print_set(i, 16);
     missed = print_targets();
-    missed += print_subnormal_targets();
+    missed += print_case_targets();
     missed += print_half_targets();
     if (too_few())
         printf("\nThe machine was too busy: some figures stand on fewer than %d quiet repetitions. Run again when it is quiet.\n",
                ENOUGH);
-    printf("\n%d of %d rows meet their targets\n", ROWS + 2 * SUBNORMALS - missed, ROWS + 2 * SUBNORMALS);
+    printf("\n%d of %d rows meet their targets\n", ROWS + 2 * CASES - missed, ROWS + 2 * CASES);
     return 0;
 }

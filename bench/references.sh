@@ -24,8 +24,8 @@ else
     empty "$out/musl.o"
 fi
 
-# newlib comes as source. Its generic C files are one a function and width (s_ for double, sf_ for float; fmod has a wrapper w_ around
-# e_); beside the timed ones those that they call.
+# newlib comes as source. Its generic C files are one a function and width (s_ for double, sf_ for float; fmod and remainder have a
+# wrapper w_ around e_); beside the timed ones those that they call.
 newlib="not installed: make bench-deps"
 source=$(ls /usr/src/newlib/newlib-*.tar.* 2>/dev/null | head -n 1)
 if [ -n "$source" ]; then
@@ -33,9 +33,9 @@ if [ -n "$source" ]; then
     tar -xf "$source" -C "$out/newlib" --strip-components=2 --wildcards \
         '*/newlib/libm/common' '*/newlib/libm/math' '*/newlib/libc/include'
     objects=
-    for name in $names rint scalbn copysign finite fpclassify; do
+    for name in $names rint scalbn copysign fabs finite fpclassify; do
         case $name in
-        fmod) files="w_fmod wf_fmod e_fmod ef_fmod" ;;
+        fmod | remainder) files="w_$name wf_$name e_$name ef_$name" ;;
         *) files="s_$name sf_$name" ;;
         esac
         for file in $files; do
