@@ -241,6 +241,61 @@ static const struct {
     {F32(nextafter), 0xff7fffff, 0xff800000, 0xff800000, EW_REFUSED_RANGE},
 };
 
+/* remainder and remquo. The quotient has the sign of x / y and the magnitude of n modulo 8. */
+static const struct {
+    uint64_t x, y, expected;
+    int32_t quotient;
+    uint64_t refusal;
+} remainders64[] = {
+    {0xc01e000000000000, 0x4000000000000000, 0x3fe0000000000000, -4, EW_ACCEPTED}, /* remainder(-7.5, 2) = 0.5 */
+    {0x4014000000000000, 0x4000000000000000, 0x3ff0000000000000, 2, EW_ACCEPTED},  /* 5 by 2: a half, to the even 2 */
+    {0x401c000000000000, 0x4000000000000000, 0xbff0000000000000, 4, EW_ACCEPTED},  /* 7 by 2: a half, to the even 4 */
+    {0x400c000000000000, 0xbff0000000000000, 0xbfe0000000000000, -4, EW_ACCEPTED}, /* 3.5 by -1 */
+    {0x401e000000000000, 0x3ff0000000000000, 0xbfe0000000000000, 0, EW_ACCEPTED},  /* 7.5 by 1: n is 8 */
+    {0x4020000000000000, 0x3ff0000000000000, 0x0000000000000000, 0, EW_ACCEPTED},
+    {0xc022000000000000, 0x3ff0000000000000, 0x8000000000000000, -1, EW_ACCEPTED}, /* -9 by 1 */
+    {0x4022000000000000, 0xbff0000000000000, 0x0000000000000000, -1, EW_ACCEPTED},
+    {0xc022000000000000, 0xbff0000000000000, 0x8000000000000000, 1, EW_ACCEPTED}, /* a zero with x's sign */
+    {0x3ff0000000000000, 0x4000000000000000, 0x3ff0000000000000, 0, EW_ACCEPTED}, /* 1 by 2: a half, to 0 */
+    {0x3ff0000000000001, 0x4000000000000000, 0xbfeffffffffffffe, 1, EW_ACCEPTED}, /* the next one */
+    {0x7fe0000000000000, 0x7fefffffffffffff, 0xffdffffffffffffe, 1, EW_ACCEPTED}, /* twice y is no number */
+    {0x7fefffffffffffff, 0x0000000000000003, 0x8000000000000001, 3, EW_ACCEPTED}, /* a subnormal divisor */
+    {0x88005cfd922a752c, 0x8000000000004000, 0x8000000000000000, 0, EW_ACCEPTED},
+    {0x8000000000000005, 0x0000000000000003, 0x0000000000000001, -2, EW_ACCEPTED},
+    {0x0000000000000003, 0x0000000000000002, 0x8000000000000001, 2, EW_ACCEPTED}, /* a half of two subnormal numbers */
+    {0x0008000000000000, 0x0010000000000000, 0x0008000000000000, 0, EW_ACCEPTED}, /* a half of the least normal number */
+    {0x0008000000000001, 0x0010000000000000, 0x8007ffffffffffff, 1, EW_ACCEPTED},
+    {0x8000000000000000, 0x4008000000000000, 0x8000000000000000, 0, EW_ACCEPTED},
+    {0xc008000000000000, 0x7ff0000000000000, 0xc008000000000000, 0, EW_ACCEPTED},
+    {0xfff0000000000000, 0x4000000000000000, 0x7ff8000000000000, 0, EW_REFUSED_OPERAND},
+    {0x7ff0000000000000, 0x7ff0000000000000, 0x7ff8000000000000, 0, EW_REFUSED_OPERAND},
+    {0xc008000000000000, 0x8000000000000000, 0x7ff8000000000000, 0, EW_REFUSED_OPERAND},
+    {0x7ff0000000000000, 0xfff0000000000001, 0xfff8000000000001, 0, EW_ACCEPTED}, /* the NaN comes first */
+    {0x7ff0000000000002, 0xfff0000000000001, 0x7ff8000000000002, 0, EW_ACCEPTED}, /* and of two the first */
+};
+
+static const struct {
+    uint32_t x, y, expected;
+    int32_t quotient;
+    uint64_t refusal;
+} remainders32[] = {
+    {0xc0f00000, 0x40000000, 0x3f000000, -4, EW_ACCEPTED},
+    {0x40e00000, 0x40000000, 0xbf800000, 4, EW_ACCEPTED},
+    {0x40f00000, 0x3f800000, 0xbf000000, 0, EW_ACCEPTED},
+    {0xc1100000, 0x3f800000, 0x80000000, -1, EW_ACCEPTED},
+    {0x3f800000, 0x40000000, 0x3f800000, 0, EW_ACCEPTED},
+    {0x3f800001, 0x40000000, 0xbf7ffffe, 1, EW_ACCEPTED},
+    {0x7f7ffffe, 0x00000003, 0x00000001, 5, EW_ACCEPTED},
+    {0xff7fffff, 0x00800001, 0x80000003, -5, EW_ACCEPTED}, /* the least normal number but one */
+    {0x80000005, 0x00000003, 0x00000001, -2, EW_ACCEPTED},
+    {0x00000003, 0x00000002, 0x80000001, 2, EW_ACCEPTED},
+    {0x00400001, 0x00800000, 0x803fffff, 1, EW_ACCEPTED},
+    {0x40400000, 0xff800000, 0x40400000, 0, EW_ACCEPTED},
+    {0x7f800000, 0x40000000, 0x7fc00000, 0, EW_REFUSED_OPERAND},
+    {0x40400000, 0x00000000, 0x7fc00000, 0, EW_REFUSED_OPERAND},
+    {0x40400000, 0xff800001, 0xffc00001, 0, EW_ACCEPTED},
+};
+
 static const struct {
     const char *name;
     uint64_t (*pattern)(uint64_t, uint64_t);
@@ -414,6 +469,40 @@ static void check_all(void)
         check(pairs32[i].name, x, ew_bits_f32(value.value), pairs32[i].expected);
         check(pairs32[i].name, x, value.refusal, pairs32[i].refusal);
     }
+    for (i = 0; i < LENGTH(remainders64); i++) {
+        const uint64_t x = remainders64[i].x, y = remainders64[i].y;
+        const ew_word64 pattern = ew_remainder_f64(x, y);
+        const ew_double value = ew_remainder(ew_value_f64(x), ew_value_f64(y));
+        const ew_remquo64 patterns = ew_remquo_f64(x, y);
+        const ew_double_remquo values = ew_remquo(ew_value_f64(x), ew_value_f64(y));
+        check("remainder_f64", x, pattern.word, remainders64[i].expected);
+        check("remainder_f64", x, pattern.refusal, remainders64[i].refusal);
+        check("remainder", x, ew_bits_f64(value.value), remainders64[i].expected);
+        check("remainder", x, value.refusal, remainders64[i].refusal);
+        check("remquo_f64", x, patterns.word, remainders64[i].expected);
+        check("remquo_f64 quotient", x, (uint64_t)patterns.quotient, (uint64_t)remainders64[i].quotient);
+        check("remquo_f64", x, patterns.refusal, remainders64[i].refusal);
+        check("remquo", x, ew_bits_f64(values.value), remainders64[i].expected);
+        check("remquo quotient", x, (uint64_t)values.quotient, (uint64_t)remainders64[i].quotient);
+        check("remquo", x, values.refusal, remainders64[i].refusal);
+    }
+    for (i = 0; i < LENGTH(remainders32); i++) {
+        const uint32_t x = remainders32[i].x, y = remainders32[i].y;
+        const ew_word32 pattern = ew_remainder_f32(x, y);
+        const ew_float value = ew_remainderf(ew_value_f32(x), ew_value_f32(y));
+        const ew_remquo32 patterns = ew_remquo_f32(x, y);
+        const ew_float_remquo values = ew_remquof(ew_value_f32(x), ew_value_f32(y));
+        check("remainder_f32", x, pattern.word, remainders32[i].expected);
+        check("remainder_f32", x, pattern.refusal, remainders32[i].refusal);
+        check("remainderf", x, ew_bits_f32(value.value), remainders32[i].expected);
+        check("remainderf", x, value.refusal, remainders32[i].refusal);
+        check("remquo_f32", x, patterns.word, remainders32[i].expected);
+        check("remquo_f32 quotient", x, (uint64_t)patterns.quotient, (uint64_t)remainders32[i].quotient);
+        check("remquo_f32", x, patterns.refusal, remainders32[i].refusal);
+        check("remquof", x, ew_bits_f32(values.value), remainders32[i].expected);
+        check("remquof quotient", x, (uint64_t)values.quotient, (uint64_t)remainders32[i].quotient);
+        check("remquof", x, values.refusal, remainders32[i].refusal);
+    }
     for (i = 0; i < LENGTH(choices64); i++) {
         const uint64_t x = choices64[i].x, y = choices64[i].y;
         check(choices64[i].name, x, choices64[i].pattern(x, y), choices64[i].expected);
@@ -484,6 +573,19 @@ static void check_all(void)
         check("classify", kinds[i].x64, ew_classify(ew_value_f64(kinds[i].x64)), kinds[i].kind);
         check("classifyf", kinds[i].x32, ew_classifyf(ew_value_f32(kinds[i].x32)), kinds[i].kind);
     }
+}
+
+/* How remquo's answers lie in memory. Of 16 bytes each, they come back in registers. */
+static void check_layout(void)
+{
+    check("remquo64's answer", 0, sizeof(ew_remquo64), 16);
+    check("remquo64's answer", 1, offsetof(ew_remquo64, word), 0);
+    check("remquo64's answer", 2, offsetof(ew_remquo64, quotient), 8);
+    check("remquo64's answer", 3, offsetof(ew_remquo64, refusal), 12);
+    check("remquo32's answer", 0, sizeof(ew_remquo32), 16);
+    check("remquo32's answer", 1, offsetof(ew_remquo32, word), 0);
+    check("remquo32's answer", 2, offsetof(ew_remquo32, quotient), 4);
+    check("remquo32's answer", 3, offsetof(ew_remquo32, refusal), 8);
 }
 
 /* Document 01's recipe: an input from -2.5 to 7.25, its floor, and that as a whole number. */
@@ -685,6 +787,7 @@ int main(void)
     static const int modes[] = {FE_TONEAREST, FE_DOWNWARD, FE_UPWARD, FE_TOWARDZERO};
     size_t i;
     check_constants();
+    check_layout();
 #ifdef __FAST_MATH__
     /* Without both bits this build would show nothing that the plain one does not. */
     check("MXCSR: FTZ and DAZ", 0, _mm_getcsr() & 0x8040, 0x8040);
