@@ -1,16 +1,32 @@
 #!/bin/sh
 # Reads the machine code of the library's functions, whatever the compiler made of the source: none may touch a floating-point
-# register, none but fmod may divide, and none may call or jump to another but fmod, which recipes share. frexp and ldexp bring a subnormal
-# number to its leading one by one count, without a loop. The library as a whole keeps no state and asks for nothing but what moves memory.
+# register. None may divide, and none may call or jump to another, but the remainders (fmod, remainder, remquo), which have parts that they
+# share with each other and with recipes; what they call is read with them. frexp and ldexp bring a subnormal number to its leading one by one
+# count, without a loop. The library as a whole keeps no state and asks for nothing but what moves memory.
 # machine_code.sh LIBRARY
 set -eu
 library=$1
-functions="floor ceil trunc round nearbyint lround fabs negate classify modf frexp ldexp fmod nextafter fmin fmax"
+functions="floor ceil trunc round nearbyint lround fabs negate classify modf frexp ldexp fmod remainder remquo nextafter fmin fmax"
 floating='%[xyz]mm|[[:space:]]f[a-z]+[[:space:]]+%?st'
 divides='[[:space:]]i?div[a-z]*[[:space:]]'
 # A call, or a jump out of the function, has a relocation of the kind PLT32.
 calls='[[:space:]]call[a-z]*[[:space:]]|R_X86_64_PLT32'
 count='[[:space:]](bsr|lzcnt)[a-z]*[[:space:]]'
+# code_of FUNCTION: its instructions and relocations.
+code_of() {
+    objdump -dr --no-show-raw-insn --disassemble="$1" "$library" | sed -n "/<$1>:/,\$p"
+}
+# code_from FUNCTION: the same, and of all that it calls. The relocation of a function that the library keeps to itself names its section.
+code_from() {
+    names=$1 at=0
+    while [ "$at" -lt "$(echo "$names" | wc -l)" ]; do
+        at=$((at + 1))
+        part=$(code_of "$(echo "$names" | sed -n "${at}p")")
+        [ -n "$part" ] || return 1
+        echo "$part"
+        names=$(printf '%s\n%s\n' "$names" "$(echo "$part" | sed -n 's/.*R_X86_64_PLT32[[:space:]]*\(\.text\.\)*\(.*\)-0x.*/\2/p')" | awk 'NF && !seen[$0]++')
+    done
+}
 # How many of a function's instructions can be reached again from themselves.
 in_loops() {
     awk 'function value(digits,  i, v) {
@@ -49,12 +65,11 @@ done
 checked=0
 for symbol in $symbols; do
     case $symbol in
-    ew_fmod_*) wrong="$floating" ;;
-    *) wrong="$floating|$divides|$calls" ;;
+    ew_fmod_* | ew_remainder_* | ew_remquo_*) wrong="$floating" read_by=code_from ;;
+    *) wrong="$floating|$divides|$calls" read_by=code_of ;;
     esac
-    code=$(objdump -dr --no-show-raw-insn --disassemble="$symbol" "$library" | sed -n "/<$symbol>:/,\$p")
-    if [ -z "$code" ]; then
-        echo "$symbol is not in $library" >&2
+    if ! code=$($read_by "$symbol") || [ -z "$code" ]; then
+        echo "$symbol, or what it calls, is not in $library" >&2
         exit 1
     fi
     if echo "$code" | grep -E "$wrong"; then
@@ -83,4 +98,4 @@ if [ -n "$outside" ]; then
     echo "$library asks for $outside" >&2
     exit 1
 fi
-echo "$checked functions touch no floating-point register; but for fmod none divides or calls another; one count and no loop in frexp and ldexp; no state"
+echo "$checked functions touch no floating-point register; but for fmod, remainder and remquo none divides or calls another; one count and no loop in frexp and ldexp; no state"
