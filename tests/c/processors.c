@@ -161,14 +161,24 @@ typedef ew_parts64 ew_answer64_modf;
 typedef ew_parts32 ew_answer32_modf;
 typedef ew_frexp64 ew_answer64_frexp;
 typedef ew_frexp32 ew_answer32_frexp;
-typedef ew_word64 ew_answer64_ldexp, ew_answer64_fmod, ew_answer64_nextafter;
-typedef ew_word32 ew_answer32_ldexp, ew_answer32_fmod, ew_answer32_nextafter;
+typedef ew_word64 ew_answer64_ldexp, ew_answer64_fmod, ew_answer64_remainder, ew_answer64_nextafter;
+typedef ew_word32 ew_answer32_ldexp, ew_answer32_fmod, ew_answer32_remainder, ew_answer32_nextafter;
 PAIR(lround, value, refusal, x)
 PAIR(modf, whole, fraction, x)
 PAIR(frexp, fraction, exponent, x)
 PAIR(ldexp, word, refusal, x, n)
 PAIR(fmod, word, refusal, x, y)
+PAIR(remainder, word, refusal, x, y)
 PAIR(nextafter, word, refusal, x, y)
+
+#define REMQUO(width) \
+    static uint64_t remquo##width(operands o, uint64_t h) \
+    { \
+        const ew_remquo##width r = ew_remquo_f##width((uint##width##_t)o.x, (uint##width##_t)o.y); \
+        return hashed(hashed(hashed(h, r.word), (uint64_t)r.quotient), r.refusal); \
+    }
+REMQUO(64)
+REMQUO(32)
 
 static const struct {
     const char *name;
@@ -177,7 +187,8 @@ static const struct {
 #define ROW(name) {#name, name##64, name##32, NULL}
 #define ROW3(name) {#name, name##64, name##32, name##16}
     ROW(classify), ROW(fabs), ROW(negate), ROW3(floor), ROW3(ceil), ROW3(trunc), ROW3(round), ROW3(nearbyint), ROW(lround), ROW(modf), ROW(frexp),
-    ROW(ldexp), ROW(fmod), ROW(nextafter), ROW(fmin), ROW(fmax), {"f16_to_f32", NULL, NULL, f16_to_f32}, {"f32_to_f16", NULL, f32_to_f16, NULL},
+    ROW(ldexp), ROW(fmod), ROW(remainder), ROW(remquo), ROW(nextafter), ROW(fmin), ROW(fmax), {"f16_to_f32", NULL, NULL, f16_to_f32},
+    {"f32_to_f16", NULL, f32_to_f16, NULL},
 };
 
 static void all_functions(void)
@@ -207,6 +218,14 @@ static double libm_ldexp(double x, double n) { return ldexp(x, (int)n); }
 static double libm_frexp(double x, double n) { int e; double f = frexp(x, &e); (void)n; return f + e; }
 static double libm_modf(double x, double y) { double whole, f = modf(x, &whole); (void)y; return f; }
 
+/* The three digits of the quotient that C promises, in the last of the remainder. Of a NaN there are none. */
+static double libm_remquo(double x, double y)
+{
+    int quotient = 0;
+    const double left = remquo(x, y, &quotient);
+    return ew_value_f64(ew_bits_f64(left) ^ (uint64_t)(quotient & 7));
+}
+
 /*
  * Those of our names, then rint, and then some whose code depends on the processor. The compiler may not put its own in their place: it
  * is told -fno-builtin. lround is left out: what it gives where it refuses is not defined.
@@ -218,7 +237,7 @@ static const struct {
     double (*one)(double), (*two)(double, double);
 } libm[] = {
     LIBM1(floor), LIBM1(ceil), LIBM1(trunc), LIBM1(round), LIBM1(nearbyint), LIBM1(rint), {"modf", NULL, libm_modf}, {"frexp", NULL, libm_frexp},
-    {"ldexp", NULL, libm_ldexp}, LIBM2(fmod), LIBM2(nextafter), LIBM2(fmin), LIBM2(fmax), LIBM1(fabs),
+    {"ldexp", NULL, libm_ldexp}, LIBM2(fmod), LIBM2(remainder), {"remquo", NULL, libm_remquo}, LIBM2(nextafter), LIBM2(fmin), LIBM2(fmax), LIBM1(fabs),
     LIBM1(sin), LIBM1(cos), LIBM1(tan), LIBM1(atan), LIBM1(exp), LIBM1(log), LIBM2(pow), LIBM2(atan2),
 };
 

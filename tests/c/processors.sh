@@ -39,7 +39,7 @@ for processor in here old new; do
     on $processor "$build/processors" functions >"$work/functions.$processor"
 done
 same functions "$work/functions.here" "$work/functions.old" "$work/functions.new"
-echo "functions: 16 at two widths and export to halves, a million patterns each, 6 of every half: checksum $(sed -n 's/^all //p' "$work/functions.here"), here and on both"
+echo "functions: 18 at two widths and export to halves, a million patterns each, 6 of every half: checksum $(sed -n 's/^all //p' "$work/functions.here"), here and on both"
 
 # Buckets of calls by turns on the one and the other, joined again in their order.
 for kind in runs lines sheets explanations; do
