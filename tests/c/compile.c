@@ -692,26 +692,35 @@ static void check_sheet(void)
         check("mark", k, sheet[k * EW_SHEET_LINE + 5], k == 0 ? '0' : '1');
 }
 
-/* The remainder of an input by another whose range holds zero; the recipe above, whose sheet passes; and half a line. */
+/*
+ * fmod and remainder of an input by another whose range holds zero, steps that differ in a digit of the opcode; the recipe above, whose sheet
+ * passes; and half a line.
+ */
 static void check_explain(void)
 {
-    static const char refused[] = "010000bff00000000000003ff0000000000000\n"
-                                  "01000000000000000000003ff0000000000000\n"
-                                  "22000100000000000000000000000000000000\n";
-    ew_explain_answer e = ew_explain((const uint8_t *)refused, sizeof refused - 1);
-    check("explain refusal", 0, e.refusal, EW_ACCEPTED);
-    check("explain place", 0, e.place, 0);
-    check("explain step", 0, e.step, 2);
-    check("explain operand", 0, e.operand, 1);
-    check("explain reason", 0, e.reason, EW_REASON_DIVISOR_HOLDS_ZERO);
+    char refused[] = "010000bff00000000000003ff0000000000000\n"
+                     "01000000000000000000003ff0000000000000\n"
+                     "22000100000000000000000000000000000000\n";
+    const char digits[] = {'2', '4'};
+    ew_explain_answer e;
+    size_t i;
+    for (i = 0; i < LENGTH(digits); i++) {
+        refused[2 * EW_RECIPE_LINE + 1] = digits[i];
+        e = ew_explain((const uint8_t *)refused, sizeof refused - 1);
+        check("explain refusal", i, e.refusal, EW_ACCEPTED);
+        check("explain place", i, e.place, 0);
+        check("explain step", i, e.step, 2);
+        check("explain operand", i, e.operand, 1);
+        check("explain reason", i, e.reason, EW_REASON_DIVISOR_HOLDS_ZERO);
+    }
     e = ew_explain((const uint8_t *)recipe, sizeof recipe - 1);
-    check("explain refusal", 1, e.refusal, EW_ACCEPTED);
-    check("explain step", 1, e.step, 0);
-    check("explain operand", 1, e.operand, 0);
-    check("explain reason", 1, e.reason, EW_REASON_NONE);
-    e = ew_explain((const uint8_t *)recipe, EW_RECIPE_LINE / 2);
-    check("explain refusal", 2, e.refusal, EW_REFUSED_LENGTH);
+    check("explain refusal", 2, e.refusal, EW_ACCEPTED);
+    check("explain step", 2, e.step, 0);
+    check("explain operand", 2, e.operand, 0);
     check("explain reason", 2, e.reason, EW_REASON_NONE);
+    e = ew_explain((const uint8_t *)recipe, EW_RECIPE_LINE / 2);
+    check("explain refusal", 3, e.refusal, EW_REFUSED_LENGTH);
+    check("explain reason", 3, e.reason, EW_REASON_NONE);
 }
 
 /* An array of length 0 may be NULL, each of them alone and all at once. */

@@ -31,7 +31,7 @@ static void write_recipe(void)
         unsigned opcode, a, b;
     } steps[] = {
         {0x10, 0, 0}, {0x11, 1, 0}, {0x12, 2, 0}, {0x13, 3, 0}, {0x14, 4, 0}, {0x15, 5, 0}, {0x16, 6, 0}, {0x17, 7, 0}, {0x18, 8, 0},
-        {0x20, 9, 10}, {0x21, 11, 12}, {0x22, 13, CONSTANT}, {0x23, 14, WHOLE_CONSTANT},
+        {0x20, 9, 10}, {0x21, 11, 12}, {0x22, 13, CONSTANT}, {0x23, 14, WHOLE_CONSTANT}, {0x24, 12, CONSTANT},
         {0x30, WHOLE_INPUT, WHOLE_CONSTANT}, {0x31, WHOLE_INPUT, WHOLE_CONSTANT}, {0x32, WHOLE_INPUT, 0},
     };
     int i;
