@@ -74,7 +74,7 @@ enum {
     EW_REFUSED_INPUTS = 17,   /* a seventeenth input */
 
     /* A step of a run or a sheet; the place is its number. A sheet refuses where some frame could be refused. */
-    EW_REFUSED_REMAINDER = 20, /* fmod of an infinite number, or by zero */
+    EW_REFUSED_REMAINDER = 20, /* fmod or remainder of an infinite number, or by zero */
     EW_REFUSED_OVERFLOW = 21,  /* lround, a whole sum or difference, or ldexp out of range */
     EW_REFUSED_INEXACT = 22,   /* a whole number over 2^53 in magnitude, to be made a double */
 
@@ -357,7 +357,7 @@ ew_word32 ew_ldexp_f32(uint32_t x, int64_t n);
 static inline ew_double ew_ldexp(double x, int64_t n) { return ew_value_word64(ew_ldexp_f64(ew_bits_f64(x), n)); }
 static inline ew_float ew_ldexpf(float x, int64_t n) { return ew_value_word32(ew_ldexp_f32(ew_bits_f32(x), n)); }
 
-/* ---- Remainder ---- */
+/* ---- Remainders ---- */
 
 /*
  * ew_fmod returns x - n * y exactly, n being x / y cut to a whole number: of smaller magnitude than y, with x's sign.
@@ -373,6 +373,63 @@ ew_word64 ew_fmod_f64(uint64_t x, uint64_t y);
 ew_word32 ew_fmod_f32(uint32_t x, uint32_t y);
 static inline ew_double ew_fmod(double x, double y) { return ew_value_word64(ew_fmod_f64(ew_bits_f64(x), ew_bits_f64(y))); }
 static inline ew_float ew_fmodf(float x, float y) { return ew_value_word32(ew_fmod_f32(ew_bits_f32(x), ew_bits_f32(y))); }
+
+/*
+ * ew_remainder returns x - n * y exactly, n being the integer nearest to x / y, and of two equally near the even one: at most half of y
+ * in magnitude. A zero result has x's sign.
+ *
+ * Special cases are:
+ *     remainder(±0, y) = ±0 for y not zero
+ *     remainder(x, ±Inf) = x for a finite x
+ *     remainder(x, y) = the first NaN, quieted, where there is one
+ *
+ * Refuses 2 (EW_REFUSED_OPERAND) where x is infinite or y is zero, and neither is a NaN: the default NaN.
+ */
+ew_word64 ew_remainder_f64(uint64_t x, uint64_t y);
+ew_word32 ew_remainder_f32(uint32_t x, uint32_t y);
+static inline ew_double ew_remainder(double x, double y) { return ew_value_word64(ew_remainder_f64(ew_bits_f64(x), ew_bits_f64(y))); }
+static inline ew_float ew_remainderf(float x, float y) { return ew_value_word32(ew_remainder_f32(ew_bits_f32(x), ew_bits_f32(y))); }
+
+/*
+ * A remainder, as a pattern and as a value, with low digits of the quotient and the refusal's number. Each has 16 bytes, so that it comes
+ * back in registers.
+ */
+typedef struct { uint64_t word; int32_t quotient; uint32_t refusal; } ew_remquo64;
+typedef struct { uint32_t word; int32_t quotient; uint64_t refusal; } ew_remquo32;
+typedef struct { double value; int32_t quotient; uint32_t refusal; } ew_double_remquo;
+typedef struct { float value; int32_t quotient; uint64_t refusal; } ew_float_remquo;
+
+/*
+ * ew_remquo returns what ew_remainder does, and a quotient: the sign of x / y on the magnitude of n modulo 8, so from -7 to 7. Where
+ * n is 8 it is 0, where n is -9 it is -1.
+ *
+ * Special cases are:
+ *     remquo(±0, y) = ±0, 0 for y not zero
+ *     remquo(x, ±Inf) = x, 0 for a finite x
+ *     remquo(x, y) = the first NaN, quieted, 0, where there is one
+ *
+ * Refuses 2 (EW_REFUSED_OPERAND) where x is infinite or y is zero, and neither is a NaN: the default NaN, 0.
+ */
+ew_remquo64 ew_remquo_f64(uint64_t x, uint64_t y);
+ew_remquo32 ew_remquo_f32(uint32_t x, uint32_t y);
+static inline ew_double_remquo ew_remquo(double x, double y)
+{
+    const ew_remquo64 answer = ew_remquo_f64(ew_bits_f64(x), ew_bits_f64(y));
+    ew_double_remquo r;
+    r.value = ew_value_f64(answer.word);
+    r.quotient = answer.quotient;
+    r.refusal = answer.refusal;
+    return r;
+}
+static inline ew_float_remquo ew_remquof(float x, float y)
+{
+    const ew_remquo32 answer = ew_remquo_f32(ew_bits_f32(x), ew_bits_f32(y));
+    ew_float_remquo r;
+    r.value = ew_value_f32(answer.word);
+    r.quotient = answer.quotient;
+    r.refusal = answer.refusal;
+    return r;
+}
 
 /* ---- Order ---- */
 
@@ -448,7 +505,7 @@ typedef struct { uint64_t refusal, place, steps; } ew_sheet_answer;
  *     01, an input of one number (as +0 to -0 is), and 03, a constant, where that number is finite and has no fraction
  *     10 to 14, the roundings, where both ends of the range are finite
  *     16 and 17, fabs and negate, where A is
- *     20, 21 and 22, fmin, fmax and fmod, where A and B are
+ *     20, 21, 22 and 24, fmin, fmax, fmod and remainder, where A and B are
  *
  * Refuses 10 to 17 for the text, 40 where sheet has fewer than EW_SHEET_LINE bytes per step, and 20 to 22 for a step some of whose values
  * ew_run might refuse: the first in that order, and no byte is written.
@@ -458,8 +515,8 @@ ew_sheet_answer ew_sheet(const uint8_t *text, size_t text_len, uint8_t *sheet, s
 /* Why a sheet is refused with 20, 21 or 22: a fact about the range of an operand, or about an end of the answer. */
 enum {
     EW_REASON_NONE = 0,
-    EW_REASON_DIVISOR_HOLDS_ZERO = 1,     /* 20: fmod's B may be zero */
-    EW_REASON_DIVIDEND_LOW_INFINITE = 2,  /* 20: fmod's A has an infinite low end */
+    EW_REASON_DIVISOR_HOLDS_ZERO = 1,     /* 20: B of fmod or remainder may be zero */
+    EW_REASON_DIVIDEND_LOW_INFINITE = 2,  /* 20: A of fmod or remainder has an infinite low end */
     EW_REASON_DIVIDEND_HIGH_INFINITE = 3, /* 20: or high end */
     EW_REASON_LROUND_LOW = 4,             /* 21: lround of A's low end does not fit 64 bits */
     EW_REASON_LROUND_HIGH = 5,            /* 21: or of its high end */
