@@ -75,6 +75,26 @@ pub struct Frexp32 {
     pub exponent: i64,
 }
 
+/// A remainder of doubles, as a pattern, low digits of the quotient, and the refusal's number.
+#[repr(C)]
+#[derive(Clone, Copy, Debug, PartialEq, Eq)]
+#[allow(missing_docs)]
+pub struct Remquo64 {
+    pub word: u64,
+    pub quotient: i32,
+    pub refusal: u32,
+}
+
+/// A remainder of floats, as a pattern, low digits of the quotient, and the refusal's number.
+#[repr(C)]
+#[derive(Clone, Copy, Debug, PartialEq, Eq)]
+#[allow(missing_docs)]
+pub struct Remquo32 {
+    pub word: u32,
+    pub quotient: i32,
+    pub refusal: u64,
+}
+
 /// A refusal's number and place, or the last step's kind and word. What is not used is 0.
 #[repr(C)]
 #[derive(Clone, Copy, Debug, PartialEq, Eq)]
@@ -153,6 +173,10 @@ unsafe extern "C" {
     pub safe fn ew_ldexp_f32(x: u32, n: i64) -> Word32;
     pub safe fn ew_fmod_f64(x: u64, y: u64) -> Word64;
     pub safe fn ew_fmod_f32(x: u32, y: u32) -> Word32;
+    pub safe fn ew_remainder_f64(x: u64, y: u64) -> Word64;
+    pub safe fn ew_remainder_f32(x: u32, y: u32) -> Word32;
+    pub safe fn ew_remquo_f64(x: u64, y: u64) -> Remquo64;
+    pub safe fn ew_remquo_f32(x: u32, y: u32) -> Remquo32;
     pub safe fn ew_nextafter_f64(x: u64, y: u64) -> Word64;
     pub safe fn ew_nextafter_f32(x: u32, y: u32) -> Word32;
     pub safe fn ew_fmin_f64(x: u64, y: u64) -> u64;

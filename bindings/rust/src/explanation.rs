@@ -18,11 +18,11 @@ use std::fmt;
 #[derive(Clone, Copy, Debug, PartialEq, Eq, Hash)]
 #[non_exhaustive]
 pub enum Cause {
-    /// 01: fmod's divisor may be zero.
+    /// 01: the divisor of fmod or remainder may be zero.
     DivisorHoldsZero,
-    /// 02: fmod's dividend has an infinite low end.
+    /// 02: the dividend of fmod or remainder has an infinite low end.
     DividendLowInfinite,
-    /// 03: fmod's dividend has an infinite high end.
+    /// 03: the dividend of fmod or remainder has an infinite high end.
     DividendHighInfinite,
     /// 04: lround of the low end does not fit 64 bits.
     LroundLow,

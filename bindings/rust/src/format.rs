@@ -115,6 +115,7 @@ pub enum Operation {
     Fmax,
     Fmod,
     Ldexp,
+    Remainder,
     /// A + B of whole numbers.
     Sum,
     /// A - B of whole numbers.
@@ -152,7 +153,7 @@ const D: Kind = Kind::Double;
 const W: Kind = Kind::Whole;
 
 /// In the order of opcodes, which is that of the enum. The crate's tests ask the library about every row, and about every opcode without one.
-const ROWS: [Row; 20] = [
+const ROWS: [Row; 21] = [
     row(Operation::Input, 0x01, "input", &[], D),
     row(Operation::WholeInput, 0x02, "input whole", &[], W),
     row(Operation::Constant, 0x03, "constant", &[], D),
@@ -170,6 +171,7 @@ const ROWS: [Row; 20] = [
     row(Operation::Fmax, 0x21, "fmax", &[D, D], D),
     row(Operation::Fmod, 0x22, "fmod", &[D, D], D),
     row(Operation::Ldexp, 0x23, "ldexp", &[D, W], D),
+    row(Operation::Remainder, 0x24, "remainder", &[D, D], D),
     row(Operation::Sum, 0x30, "sum", &[W, W], W),
     row(Operation::Difference, 0x31, "difference", &[W, W], W),
     row(Operation::ToDouble, 0x32, "to_double", &[W], D),

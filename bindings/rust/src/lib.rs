@@ -8,6 +8,7 @@
 //! assert_eq!(estrenwind::round(2.5), 3.0);
 //! assert_eq!(estrenwind::nearbyint(2.5), 2.0);
 //! assert_eq!(estrenwind::fmod(-7.5, 2.0), Ok(-1.5));
+//! assert_eq!(estrenwind::remainder(-7.5, 2.0), Ok(0.5));
 //! assert_eq!(estrenwind::floor(-0.5f32), -1.0);
 //! ```
 //!

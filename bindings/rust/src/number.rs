@@ -127,6 +127,15 @@ pub struct Scaled<F> {
     pub exponent: i64,
 }
 
+/// A remainder and low digits of the quotient: [`remquo`].
+#[derive(Clone, Copy, Debug, PartialEq)]
+pub struct Divided<F> {
+    /// What [`remainder`] gives.
+    pub remainder: F,
+    /// The quotient's magnitude modulo 8, with its sign: from -7 to 7.
+    pub quotient: i32,
+}
+
 /// The two widths, and the functions at each of them. Use the crate's functions; no other type can be of this trait.
 pub trait Float: sealed::Width {}
 
@@ -134,7 +143,7 @@ impl Float for f64 {}
 impl Float for f32 {}
 
 mod sealed {
-    use super::{Answer, Parts, Scaled};
+    use super::{Answer, Divided, Parts, Scaled};
 
     pub trait Width: Copy {
         fn classify(self) -> u8;
@@ -150,6 +159,8 @@ mod sealed {
         fn frexp(self) -> Scaled<Self>;
         fn ldexp(self, n: i64) -> Answer<Self>;
         fn fmod(self, y: Self) -> Answer<Self>;
+        fn remainder(self, y: Self) -> Answer<Self>;
+        fn remquo(self, y: Self) -> Answer<Divided<Self>>;
         fn nextafter(self, y: Self) -> Answer<Self>;
         fn fmin(self, y: Self) -> Self;
         fn fmax(self, y: Self) -> Self;
@@ -158,7 +169,8 @@ mod sealed {
 
 macro_rules! width {
     ($float:ident, $classify:ident, $fabs:ident, $negate:ident, $floor:ident, $ceil:ident, $trunc:ident, $round:ident, $nearbyint:ident,
-     $lround:ident, $modf:ident, $frexp:ident, $ldexp:ident, $fmod:ident, $nextafter:ident, $fmin:ident, $fmax:ident) => {
+     $lround:ident, $modf:ident, $frexp:ident, $ldexp:ident, $fmod:ident, $remainder:ident, $remquo:ident, $nextafter:ident, $fmin:ident,
+     $fmax:ident) => {
         impl sealed::Width for $float {
             #[inline]
             fn classify(self) -> u8 {
@@ -224,6 +236,22 @@ macro_rules! width {
                 answer(word.refusal, $float::from_bits(word.word))
             }
             #[inline]
+            fn remainder(self, y: Self) -> Answer<Self> {
+                let word = c::$remainder(self.to_bits(), y.to_bits());
+                answer(word.refusal, $float::from_bits(word.word))
+            }
+            #[inline]
+            fn remquo(self, y: Self) -> Answer<Divided<Self>> {
+                let divided = c::$remquo(self.to_bits(), y.to_bits());
+                answer(
+                    divided.refusal.into(),
+                    Divided {
+                        remainder: $float::from_bits(divided.word),
+                        quotient: divided.quotient,
+                    },
+                )
+            }
+            #[inline]
             fn nextafter(self, y: Self) -> Answer<Self> {
                 let word = c::$nextafter(self.to_bits(), y.to_bits());
                 answer(word.refusal, $float::from_bits(word.word))
@@ -242,10 +270,12 @@ macro_rules! width {
 
 #[rustfmt::skip]
 width!(f64, ew_classify_f64, ew_fabs_f64, ew_negate_f64, ew_floor_f64, ew_ceil_f64, ew_trunc_f64, ew_round_f64, ew_nearbyint_f64,
-       ew_lround_f64, ew_modf_f64, ew_frexp_f64, ew_ldexp_f64, ew_fmod_f64, ew_nextafter_f64, ew_fmin_f64, ew_fmax_f64);
+       ew_lround_f64, ew_modf_f64, ew_frexp_f64, ew_ldexp_f64, ew_fmod_f64, ew_remainder_f64, ew_remquo_f64, ew_nextafter_f64, ew_fmin_f64,
+       ew_fmax_f64);
 #[rustfmt::skip]
 width!(f32, ew_classify_f32, ew_fabs_f32, ew_negate_f32, ew_floor_f32, ew_ceil_f32, ew_trunc_f32, ew_round_f32, ew_nearbyint_f32,
-       ew_lround_f32, ew_modf_f32, ew_frexp_f32, ew_ldexp_f32, ew_fmod_f32, ew_nextafter_f32, ew_fmin_f32, ew_fmax_f32);
+       ew_lround_f32, ew_modf_f32, ew_frexp_f32, ew_ldexp_f32, ew_fmod_f32, ew_remainder_f32, ew_remquo_f32, ew_nextafter_f32, ew_fmin_f32,
+       ew_fmax_f32);
 
 /// The sort of number that `x` is.
 ///
@@ -387,6 +417,36 @@ pub fn ldexp<F: Float>(x: F, n: i64) -> Answer<F> {
 /// ```
 pub fn fmod<F: Float>(x: F, y: F) -> Answer<F> {
     x.fmod(y)
+}
+
+/// `x - n * y` exactly, for the integer `n` nearest to `x / y`, halves to even: at most half of `y` in magnitude. A zero result has the sign
+/// of `x`. A finite `x` by an infinite `y` is `x`; where there is a NaN, the first one is given, quieted.
+///
+/// Refuses [`Reason::NoRemainder`] where [`fmod`] does, with the same value.
+///
+/// ```
+/// assert_eq!(estrenwind::remainder(350.0, 360.0), Ok(-10.0));
+/// assert_eq!(estrenwind::remainder(540.0, 360.0), Ok(-180.0)); // one turn and a half: two turns, which is even
+/// assert!(estrenwind::remainder(-720.0, 360.0f64).unwrap().is_sign_negative());
+/// ```
+pub fn remainder<F: Float>(x: F, y: F) -> Answer<F> {
+    x.remainder(y)
+}
+
+/// [`remainder`] of `x` by `y`, and of the integer `n` in it the magnitude modulo 8 with the sign of `x / y`: 0 where `n` is 8, -1 where it
+/// is -9. With a NaN, and by an infinite `y`, it is 0.
+///
+/// Refuses [`Reason::NoRemainder`] where [`fmod`] does; the remainder is then the default NaN, and the quotient 0.
+///
+/// ```
+/// // An angle as quarter turns and what is left of it, 45 degrees at most: the quarter is in the two low bits.
+/// let divided = estrenwind::remquo(-100.0, 90.0)?;
+/// assert_eq!((divided.remainder, divided.quotient), (-10.0, -1));
+/// assert_eq!(divided.quotient & 3, 3);
+/// # Ok::<(), estrenwind::Refused<estrenwind::Divided<f64>>>(())
+/// ```
+pub fn remquo<F: Float>(x: F, y: F) -> Answer<Divided<F>> {
+    x.remquo(y)
 }
 
 /// The neighbour of `x` towards `y`; `y` where they are equal. A zero that is reached keeps the sign of `x`; where there is a NaN, the

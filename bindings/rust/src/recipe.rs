@@ -70,7 +70,7 @@ pub enum Fault {
     Declared,
     /// 17: a seventeenth input.
     Inputs,
-    /// 20: fmod of an infinite number, or by zero. Of a sheet: it could happen.
+    /// 20: fmod or remainder of an infinite number, or by zero. Of a sheet: it could happen.
     Remainder,
     /// 21: the answer does not fit 64 bits, or ldexp overflows. Of a sheet: it could happen.
     Overflow,
@@ -155,7 +155,7 @@ impl fmt::Display for Fault {
             Fault::Kind => "works on a step of the wrong kind",
             Fault::Declared => "a NaN, or a range whose low end is above its high end",
             Fault::Inputs => "a seventeenth input",
-            Fault::Remainder => "fmod of an infinite number, or by zero",
+            Fault::Remainder => "fmod or remainder of an infinite number, or by zero",
             Fault::Overflow => "the answer does not fit",
             Fault::Inexact => "a whole number beyond 2^53 has no exact double",
             Fault::Frame => "the frame does not have 16 digits for each input",

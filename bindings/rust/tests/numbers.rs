@@ -84,6 +84,7 @@ fn single_width() {
     same32(ldexp(1.0, -149).unwrap(), f32::from_bits(1));
     assert_eq!(ldexp(-1.0, 128).unwrap_err().value, f32::NEG_INFINITY);
     same32(fmod(-7.5, 2.0).unwrap(), -1.5);
+    same32(remainder(-7.5, 2.0).unwrap(), 0.5);
     same32(nextafter(0.0, -1.0).unwrap(), f32::from_bits(0x80000001));
     same32(fmin(2.0, f32::NAN), 2.0);
     same32(fmin(-0.0, 0.0), -0.0);
@@ -153,6 +154,61 @@ fn roundings_of_halves_are_those_of_floats() {
     }
 }
 
+/// x, y, what is left, and the quotient: n nearest to x / y with halves to even, a zero with the sign of x, and the sign of x / y on the
+/// magnitude of n modulo 8.
+const NEAREST: [(f64, f64, f64, i32); 22] = [
+    (350.0, 360.0, -10.0, 1),
+    (-370.0, 360.0, -10.0, -1),
+    (1.0, 3.0, 1.0, 0),
+    // Halves: n is 0, 2, 2 and 4, and the same below zero.
+    (1.0, 2.0, 1.0, 0),
+    (3.0, 2.0, -1.0, 2),
+    (5.0, 2.0, 1.0, 2),
+    (7.0, 2.0, -1.0, 4),
+    (-1.0, 2.0, -1.0, 0),
+    (-3.0, 2.0, 1.0, -2),
+    (3.0, -2.0, -1.0, -2),
+    (-3.0, -2.0, 1.0, 2),
+    // A zero has the sign of x.
+    (0.0, -2.0, 0.0, 0),
+    (-0.0, 2.0, -0.0, 0),
+    (-4.0, 2.0, -0.0, -2),
+    (4.0, -2.0, 0.0, -2),
+    // n is 8, -9, 8 by rounding up from 7, -15 and 16.
+    (8.0, 1.0, 0.0, 0),
+    (-9.0, 1.0, -0.0, -1),
+    (7.75, 1.0, -0.25, 0),
+    (15.0, -1.0, 0.0, -7),
+    (15.5, 1.0, -0.5, 0),
+    // An infinite divisor leaves x.
+    (-5.5, f64::INFINITY, -5.5, 0),
+    (0.0, f64::NEG_INFINITY, 0.0, 0),
+];
+
+#[test]
+fn nearest_remainders() {
+    for (x, y, rest, quotient) in NEAREST {
+        same(remainder(x, y).unwrap(), rest);
+        let divided = remquo(x, y).unwrap();
+        same(divided.remainder, rest);
+        assert_eq!(divided.quotient, quotient, "{x} {y}");
+        let [x, y, rest] = [x, y, rest].map(|number| number as f32);
+        same32(remainder(x, y).unwrap(), rest);
+        let divided = remquo(x, y).unwrap();
+        same32(divided.remainder, rest);
+        assert_eq!(divided.quotient, quotient, "{x} {y}");
+    }
+    // Far apart: 2^1023 is 3n - 1, and n is 3 modulo 8.
+    let divided = remquo(2f64.powi(1023), 3.0).unwrap();
+    assert_eq!((divided.remainder, divided.quotient), (-1.0, 3));
+    // Subnormal divisors, one of each width.
+    assert_eq!(remainder(7e-323, 2e-323), Ok(-1e-323));
+    assert_eq!(
+        remainder(f32::from_bits(14), f32::from_bits(4)),
+        Ok(f32::from_bits(0x80000002))
+    );
+}
+
 #[test]
 fn classes() {
     for (x, class) in [
@@ -181,6 +237,21 @@ fn refusals() {
     }
     same(fmod(f64::NAN, 0.0).unwrap(), f64::NAN);
     same(fmod(1.0, f64::INFINITY).unwrap(), 1.0);
+    for (x, y) in [(f64::NEG_INFINITY, 2.0), (1.0, 0.0), (0.0, -0.0)] {
+        let refused = remainder(x, y).unwrap_err();
+        assert_eq!(refused.reason, Reason::NoRemainder);
+        same(refused.value, f64::from_bits(0x7ff8000000000000));
+        let refused = remquo(x, y).unwrap_err();
+        assert_eq!(refused.reason, Reason::NoRemainder);
+        same(refused.value.remainder, f64::from_bits(0x7ff8000000000000));
+        assert_eq!(refused.value.quotient, 0);
+        let refused = remquo(x as f32, y as f32).unwrap_err();
+        assert_eq!(refused.reason, Reason::NoRemainder);
+        same32(refused.value.remainder, f32::from_bits(0x7fc00000));
+        assert_eq!(refused.value.quotient, 0);
+    }
+    same(remainder(f64::INFINITY, f64::NAN).unwrap(), f64::NAN);
+    assert_eq!(remquo(f32::NAN, 0.0).unwrap().quotient, 0);
     assert_eq!(
         nextafter(f64::MIN, f64::NEG_INFINITY).unwrap_err().value,
         f64::NEG_INFINITY
@@ -216,6 +287,21 @@ fn patterns() {
     assert_eq!(c::ew_floor_f64(0xfff0000000000001), 0xfff8000000000001);
     assert_eq!(c::ew_fabs_f64(0xfff0000000000001), 0x7ff0000000000001);
     assert_eq!(c::ew_negate_f32(0x7f800001), 0xff800001);
+    // Of two NaNs the first, quieted.
+    let [first, second] = [0xfff0000000000001, 0x7ff0000000000002];
+    let quieted = 0xfff8000000000001;
+    let word = c::ew_remainder_f64(first, second);
+    assert_eq!((word.word, word.refusal), (quieted, 0));
+    let divided = c::ew_remquo_f64(first, second);
+    assert_eq!(
+        (divided.word, divided.quotient, divided.refusal),
+        (quieted, 0, 0)
+    );
+    let divided = c::ew_remquo_f32(0x3f800000, 0x7f800002);
+    assert_eq!(
+        (divided.word, divided.quotient, divided.refusal),
+        (0x7fc00002, 0, 0)
+    );
     assert_eq!(c::ew_round_f16(0xfc01), 0xfe01);
     assert_eq!(c::ew_f16_to_f32(0x7c01), 0x7fc02000);
     let half = c::ew_f32_to_f16(0xff803fff);

@@ -1,9 +1,9 @@
 //! Sheets, explanations and runs through the crate: the examples of the repository, and the lent memory.
 
 use estrenwind::{
-    explain, read_answer, run, run_lines, sheet, steps, Explanation, Fault, Kind, Lines, Operation,
-    Range, Reason, Step, TurnedDown, Value, ANSWER_LINE, FRAME_INPUT, MOST_FRAME, MOST_INPUTS,
-    MOST_SHEET, MOST_STEPS, RECIPE_LINE, SHEET_LINE,
+    explain, read_answer, remainder, run, run_lines, sheet, steps, Cause, Explanation, Fault, Kind,
+    Lines, Operation, Range, Reason, Step, TurnedDown, Value, ANSWER_LINE, FRAME_INPUT, MOST_FRAME,
+    MOST_INPUTS, MOST_SHEET, MOST_STEPS, RECIPE_LINE, SHEET_LINE,
 };
 use std::fs;
 use std::path::Path;
@@ -20,24 +20,52 @@ fn refusal_line(refused: TurnedDown) -> String {
     format!("ff{:02x}{:02x}", refused.fault.number(), refused.place)
 }
 
+fn read(example: &Path, name: &str) -> String {
+    fs::read_to_string(example.join(name)).unwrap()
+}
+
+/// Two files of an example hold a recipe's sheet, and its answers to the example's frames.
+fn shown_and_answered(example: &Path, [recipe, sheet_file, answers]: [&str; 3]) {
+    let recipe = read(example, recipe);
+    let mut lines = [0; MOST_SHEET];
+    let shown = match sheet(recipe.as_bytes(), &mut lines) {
+        Ok(steps) => String::from_utf8(lines[..SHEET_LINE * steps].to_vec()).unwrap(),
+        Err(refused) => format!("{}\n", refusal_line(refused)),
+    };
+    assert_eq!(shown, read(example, sheet_file));
+    let frames = read(example, "frames");
+    for (frame, expected) in frames.lines().zip(read(example, answers).lines()) {
+        let answer = match run(recipe.as_bytes(), frame.as_bytes(), &mut [0; MOST_STEPS]) {
+            Ok(Value::Double(x)) => format!("01{:016x}", x.to_bits()),
+            Ok(Value::Whole(n)) => format!("02{n:016x}"),
+            Ok(other) => panic!("{other:?}"),
+            Err(refused) => refusal_line(refused),
+        };
+        assert_eq!(answer, expected);
+    }
+}
+
 #[test]
 fn the_examples() {
     let folder = Path::new(env!("CARGO_MANIFEST_DIR")).join("../../examples");
-    let mut found = 0;
+    let (mut found, mut others) = (0, 0);
     for entry in fs::read_dir(folder).unwrap() {
         let example = entry.unwrap().path();
         if !example.join("recipe").exists() {
             continue;
         }
         found += 1;
-        let read = |name| fs::read_to_string(example.join(name)).unwrap();
-        let recipe = read("recipe");
-        let mut lines = [0; MOST_SHEET];
-        let shown = match sheet(recipe.as_bytes(), &mut lines) {
-            Ok(steps) => String::from_utf8(lines[..SHEET_LINE * steps].to_vec()).unwrap(),
-            Err(refused) => format!("{}\n", refusal_line(refused)),
-        };
-        assert_eq!(shown, read("sheet"));
+        shown_and_answered(&example, ["recipe", "sheet", "answers"]);
+        for other in [
+            ["mended", "mended_sheet", "mended_answers"],
+            ["nearest", "nearest_sheet", "nearest_answers"],
+        ] {
+            if example.join(other[0]).exists() {
+                shown_and_answered(&example, other);
+                others += 1;
+            }
+        }
+        let recipe = read(&example, "recipe");
         let why = match explain(recipe.as_bytes()) {
             Ok(Explanation::Refused {
                 cause,
@@ -49,18 +77,9 @@ fn the_examples() {
                 "00\n".to_owned()
             }
         };
-        assert_eq!(why, read("explanation"));
-        for (frame, expected) in read("frames").lines().zip(read("answers").lines()) {
-            let answer = match run(recipe.as_bytes(), frame.as_bytes(), &mut [0; MOST_STEPS]) {
-                Ok(Value::Double(x)) => format!("01{:016x}", x.to_bits()),
-                Ok(Value::Whole(n)) => format!("02{n:016x}"),
-                Ok(other) => panic!("{other:?}"),
-                Err(refused) => refusal_line(refused),
-            };
-            assert_eq!(answer, expected);
-        }
+        assert_eq!(why, read(&example, "explanation"));
     }
-    assert_eq!(found, 9);
+    assert_eq!((found, others), (9, 4));
 }
 
 /// A double, a whole number, and a step of this opcode on the two in these places.
@@ -135,13 +154,7 @@ fn operations_are_the_library_s() {
         // from 1 to 2: those operations are marked that give whole numbers of it.
         for (high, expected) in [(1f64, on_one(operation)), (2f64, on_some(operation))] {
             let text = [
-                Step {
-                    operation: Operation::Input,
-                    a: 0,
-                    b: 0,
-                    p: one,
-                    q: high.to_bits(),
-                },
+                declared(Operation::Input, 1.0, high),
                 Step {
                     operation: Operation::WholeInput,
                     a: 0,
@@ -185,7 +198,110 @@ fn on_some(operation: Operation) -> bool {
                 | Operation::Fmin
                 | Operation::Fmax
                 | Operation::Fmod
+                | Operation::Remainder
         )
+}
+
+/// An input or a constant from P to Q, as doubles.
+fn declared(operation: Operation, p: f64, q: f64) -> Step {
+    Step {
+        operation,
+        a: 0,
+        b: 0,
+        p: p.to_bits(),
+        q: q.to_bits(),
+    }
+}
+
+/// The lines of two inputs, each from a low to a high end, and the remainder of the first by the second.
+fn remainder_of(ends: [[f64; 2]; 2]) -> String {
+    let inputs = ends.map(|[low, high]| declared(Operation::Input, low, high).line());
+    let remainder = Step {
+        operation: Operation::Remainder,
+        a: 0,
+        b: 1,
+        p: 0,
+        q: 0,
+    };
+    inputs.concat() + &remainder.line()
+}
+
+/// Step 24: from -m to m, m being the lesser of the greatest magnitudes of a and of b, and marked where both are.
+#[test]
+fn ranges_of_the_nearest_remainder() {
+    for (a, b, m, whole) in [
+        ([-3.0, 5.0], [2.0, 7.0], 5.0, false),
+        ([-6.0, 5.0], [2.0, 7.0], 6.0, false),
+        ([-6.0, 5.0], [-4.5, -2.0], 4.5, false),
+        ([-6.0, 5.0], [0.5, f64::INFINITY], 6.0, false),
+        ([7.0, 7.0], [4.0, 4.0], 4.0, true),
+        ([7.0, 7.0], [4.5, 4.5], 4.5, false),
+        ([-0.0, 0.0], [4.0, 4.0], 0.0, true),
+        ([-0.0, -0.0], [4.0, 4.0], 0.0, true),
+    ] {
+        let range = ranges(remainder_of([a, b]).as_bytes())[2];
+        let expected = Range {
+            step: 2,
+            kind: Kind::Double,
+            whole,
+            low: f64::to_bits(-m),
+            high: m.to_bits(),
+        };
+        assert_eq!(range, expected, "{a:?} {b:?}");
+    }
+}
+
+/// Step 24 refuses where fmod does, for the same reasons, and its value is the function's.
+#[test]
+fn refusals_of_the_nearest_remainder() {
+    const INFINITY: f64 = f64::INFINITY;
+    for (a, b, cause, operand) in [
+        ([-1.0, 1.0], [0.0, 1.0], Cause::DivisorHoldsZero, 1),
+        ([-INFINITY, 1.0], [-1.0, -0.0], Cause::DivisorHoldsZero, 1),
+        (
+            [-INFINITY, INFINITY],
+            [1.0, 2.0],
+            Cause::DividendLowInfinite,
+            0,
+        ),
+        ([1.0, INFINITY], [1.0, 2.0], Cause::DividendHighInfinite, 0),
+    ] {
+        let recipe = remainder_of([a, b]);
+        let refused = sheet(recipe.as_bytes(), &mut [0; MOST_SHEET]).unwrap_err();
+        assert_eq!(refused, turned_down(Fault::Remainder, 2));
+        let explanation = Explanation::Refused {
+            cause,
+            step: 2,
+            operand,
+        };
+        assert_eq!(explain(recipe.as_bytes()), Ok(explanation));
+    }
+    let recipe = remainder_of([[-INFINITY, INFINITY]; 2]);
+    for (x, y) in [
+        (350.0, 360.0),
+        (-540.0, 360.0),
+        (-4.0, 2.0),
+        (5.0, INFINITY),
+        (5.0, -0.0),
+        (-INFINITY, 2.0),
+        (INFINITY, INFINITY),
+    ] {
+        let frame = format!("{:016x}{:016x}", x.to_bits(), y.to_bits());
+        let answer = run(recipe.as_bytes(), frame.as_bytes(), &mut [0; MOST_STEPS]);
+        let expected = match remainder(x, y) {
+            Ok(value) => Ok(value.to_bits()),
+            Err(_) => Err(turned_down(Fault::Remainder, 2)),
+        };
+        let word = |value: Value| match value {
+            Value::Double(x) => x.to_bits(),
+            other => panic!("{other:?}"),
+        };
+        assert_eq!(answer.map(word), expected, "{x} {y}");
+    }
+    assert_eq!(
+        Fault::Remainder.to_string(),
+        "fmod or remainder of an infinite number, or by zero"
+    );
 }
 
 /// The lines of a sheet that passes, as values.
@@ -217,14 +333,7 @@ fn marks_of_inputs_and_constants() {
         (constant(5e-324), false),
         (constant(f64::NEG_INFINITY), false),
     ] {
-        let step = Step {
-            operation,
-            a: 0,
-            b: 0,
-            p: p.to_bits(),
-            q: q.to_bits(),
-        };
-        let range = ranges(step.line().as_bytes())[0];
+        let range = ranges(declared(operation, p, q).line().as_bytes())[0];
         assert_eq!(range.whole, whole, "{operation:?} {p:?} {q:?}");
     }
 }
@@ -232,14 +341,7 @@ fn marks_of_inputs_and_constants() {
 /// The most inputs and the size of their fields, asked of the library.
 #[test]
 fn sizes_are_the_library_s() {
-    let input = Step {
-        operation: Operation::Input,
-        a: 0,
-        b: 0,
-        p: 0,
-        q: 0,
-    }
-    .line();
+    let input = declared(Operation::Input, 0.0, 0.0).line();
     assert_eq!(input.len(), RECIPE_LINE);
     let most = input.repeat(MOST_INPUTS);
     let frame = "0".repeat(MOST_FRAME);
