@@ -69,6 +69,12 @@ roundings: build  ## show what each rounding makes of a dozen texture indices
 	@echo
 	@build/roundings
 
+quadrant: build  ## show on which side face of a cube map a heading falls, by remquo
+	@$(call need,$(CC),compile the example)
+	$(CC) -std=c99 $(CFLAGS) $(WARNINGS) -Ibuild examples/quadrant.c $(LIBRARY) -o build/quadrant
+	@echo
+	@build/quadrant
+
 install: build  ## install command, programs, library, header, pkg-config file, manual pages and completion under PREFIX (DESTDIR is put before it)
 	@$(call need,install,put files in their places (coreutils))
 	sed -e $(call quoted,s|@PREFIX@|$(call replacement,$(PREFIX))|) -e 's|@VERSION@|$(VERSION)|' estrenwind.pc.in >build/estrenwind.pc
@@ -203,5 +209,5 @@ fmt:  ## put Rattle and Rust sources in their layout
 clean:  ## remove everything that was built
 	rm -rf build target tests/target bindings/rust/target tools/estrenwind/target
 
-.PHONY: help build demo roundings install uninstall test test-c test-peers test-rust test-bindings test-command test-install test-processors zero-rules \
+.PHONY: help build demo roundings quadrant install uninstall test test-c test-peers test-rust test-bindings test-command test-install test-processors zero-rules \
 	processors-deps faults-deps farm-deps test-endless test-exhaustive bench bench-deps fmt clean

@@ -1,6 +1,6 @@
 /*
  * Shows what each rounding makes of a dozen texture indices, the ones that renderers disagree about among them.
- * Build and run: make demo
+ * Build and run: make roundings
  */
 #include <math.h>
 #include <stdio.h>

@@ -1,11 +1,13 @@
 //! The folders of examples/: what stands in `sheet`, `explanation` and `answers` is what the
-//! reference gives for `recipe` and `frames`, a mended recipe's sheet passes, and the README shows
-//! every line of them.
+//! reference gives for `recipe` and `frames`, a mended recipe's sheet passes, and so does that of a
+//! variant, and the README shows every line of them. The programs in C compile, and one prints what a
+//! README shows.
 
 use estrenwind_tests::programs::{explain_output, run_output, sheet_output};
 use estrenwind_tests::reference::recipe::Way;
 use std::fs;
 use std::path::{Path, PathBuf};
+use std::process::Command;
 
 /// The folders that have a file of this name.
 fn folders_with(name: &str) -> Vec<PathBuf> {
@@ -23,6 +25,14 @@ fn examples() -> Vec<PathBuf> {
 /// Those of a slip, with the recipe mended.
 fn slips() -> Vec<PathBuf> {
     folders_with("mended")
+}
+
+/// The folder in which a heading is wrapped, to one turn and to the nearest.
+fn camera_wrap() -> PathBuf {
+    let folders = folders_with("nearest");
+    assert_eq!(folders.len(), 1);
+    assert!(folders[0].ends_with("camera_wrap"));
+    folders[0].clone()
 }
 
 fn read(example: &Path, name: &str) -> String {
@@ -77,6 +87,68 @@ fn slips_are_mended() {
     }
 }
 
+/// The variant by the nearest turn, on the same frames. What its README says of the sheet: bounds of half a turn
+/// make its last range narrower, and change no answer.
+#[test]
+fn the_nearest_turn() {
+    let folder = camera_wrap();
+    shown_and_answered(&folder, "nearest", "nearest_sheet", "nearest_answers");
+    let [nearest, frames, answers] =
+        ["nearest", "frames", "nearest_answers"].map(|name| read(&folder, name));
+    assert_ne!(answers, read(&folder, "answers"), "it is another function");
+    let half = 180f64.to_bits();
+    let minus_half = (-180f64).to_bits();
+    let bounded = format!(
+        "{nearest}030000{minus_half:016x}{:016}\n210203{:032}\n030000{half:016x}{:016}\n200405{:032}\n",
+        0, 0, 0, 0
+    );
+    let sheet = text(sheet_output(Way::Exact, bounded.as_bytes()));
+    let narrower = format!("060100{minus_half:016x}{half:016x}");
+    assert_eq!(sheet.lines().last(), Some(narrower.as_str()));
+    let input = format!("{bounded}\n{frames}");
+    assert_eq!(text(run_output(Way::Exact, input.as_bytes())), answers);
+}
+
+/// The examples in C, built with warnings as errors; one prints the block that the README of the camera's heading shows.
+#[test]
+fn programs_in_c() {
+    let root = Path::new(env!("CARGO_MANIFEST_DIR")).join("..");
+    let library = std::env::var_os("ESTRENWIND_LIB_DIR").map_or(root.join("build"), PathBuf::from);
+    let readme = read(&camera_wrap(), "README.md");
+    for (name, is_shown) in [("roundings", false), ("quadrant", true)] {
+        let program = std::env::temp_dir().join(format!("{name}-{}", std::process::id()));
+        let compiled = Command::new("gcc")
+            .args([
+                "-std=c99",
+                "-O2",
+                "-Wall",
+                "-Wextra",
+                "-Wpedantic",
+                "-Wconversion",
+                "-Werror",
+            ])
+            .arg("-I")
+            .arg(root.join("include"))
+            .arg(root.join(format!("examples/{name}.c")))
+            .arg(library.join("libestrenwind.a"))
+            .arg("-o")
+            .arg(&program)
+            .status()
+            .unwrap();
+        assert!(compiled.success(), "{name}.c");
+        let ran = Command::new(&program).output().unwrap();
+        fs::remove_file(&program).unwrap();
+        assert!(ran.status.success(), "{name}");
+        let printed = text(ran.stdout);
+        assert!(printed.lines().count() > 8, "{printed}");
+        let block: String = printed
+            .lines()
+            .map(|line| format!("    {line}\n"))
+            .collect();
+        assert_eq!(readme.contains(&block), is_shown, "{block}");
+    }
+}
+
 /// Whether a README has a line with all of these, each in backquotes.
 fn shows(example: &Path, words: &[&str]) {
     let shown = read(example, "README.md")
@@ -104,10 +176,16 @@ fn every_line_is_explained() {
             shows(&example, &[frame, answer]);
         }
     }
-    for example in slips() {
-        let [mended, sheet, frames, answers] =
-            ["mended", "mended_sheet", "frames", "mended_answers"].map(|name| read(&example, name));
-        let steps = mended.lines().zip(sheet.lines());
+    let mended = slips().into_iter().map(|example| (example, "mended"));
+    for (example, name) in mended.chain([(camera_wrap(), "nearest")]) {
+        let [recipe, sheet, frames, answers] = [
+            name,
+            &format!("{name}_sheet"),
+            "frames",
+            &format!("{name}_answers"),
+        ]
+        .map(|name| read(&example, name));
+        let steps = recipe.lines().zip(sheet.lines());
         for (line, other) in steps.chain(frames.lines().zip(answers.lines())) {
             shows(&example, &[line, other]);
         }

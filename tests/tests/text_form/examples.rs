@@ -14,7 +14,7 @@ fn folders_with(name: &str) -> Vec<PathBuf> {
 
 #[test]
 fn text_forms_are_the_recipes() {
-    for (name, folders) in [("recipe", 9), ("mended", 3)] {
+    for (name, folders) in [("recipe", 9), ("mended", 3), ("nearest", 1)] {
         let found = folders_with(name);
         assert_eq!(found.len(), folders);
         for folder in found {
@@ -58,19 +58,28 @@ fn names_are_kept() {
 /// A decimal answer says what the hexadecimal one does.
 #[test]
 fn decimal_frames_have_the_same_answers() {
-    for folder in folders_with("recipe") {
+    let with = |recipe: &str, answers: &str| {
+        let both = (format!("{recipe}.ew"), answers.to_owned());
+        folders_with(recipe)
+            .into_iter()
+            .map(move |folder| (folder, both.clone()))
+    };
+    let all = with("recipe", "answers")
+        .chain(with("mended", "mended_answers"))
+        .chain(with("nearest", "nearest_answers"));
+    for (folder, (recipe, answers)) in all {
         let file = |name: &str| folder.join(name).to_str().unwrap().to_owned();
         let decimal = estrenwind(
             &[
                 "run",
                 "--quiet",
                 "--decimal",
-                &file("recipe.ew"),
+                &file(&recipe),
                 &file("frames.txt"),
             ],
             "",
         );
-        let answers = fs::read_to_string(folder.join("answers")).unwrap();
+        let answers = fs::read_to_string(folder.join(answers)).unwrap();
         assert_eq!(decimal.output.lines().count(), answers.lines().count());
         for (shown, answer) in decimal.output.lines().zip(answers.lines()) {
             match &answer[..2] {
