@@ -502,7 +502,7 @@ fn operation_named(name: &str) -> Option<Operation> {
 }
 
 /// What people write for an operation that has another name here.
-const OTHER_NAMES: [(&str, &str); 20] = [
+const OTHER_NAMES: [(&str, &str); 23] = [
     ("+", "sum"),
     ("-", "difference"),
     ("add", "sum"),
@@ -512,6 +512,9 @@ const OTHER_NAMES: [(&str, &str); 20] = [
     ("max", "fmax"),
     ("%", "fmod"),
     ("mod", "fmod"),
+    ("drem", "remainder"),
+    ("remquo", "remainder"),
+    ("IEEEremainder", "remainder"),
     ("abs", "fabs"),
     ("neg", "negate"),
     ("frac", "fraction"),
@@ -661,6 +664,12 @@ mod tests {
              04000000000000000000010000000000000000\n\
              30000800000000000000000000000000000000\n"
         );
+        assert_eq!(
+            lines("u = input 0 .. 1\nx = remainder u 360"),
+            "01000000000000000000003ff0000000000000\n\
+             03000040768000000000000000000000000000\n\
+             24000100000000000000000000000000000000\n"
+        );
     }
 
     #[test]
@@ -670,7 +679,7 @@ mod tests {
 
     #[test]
     fn slips_are_told_at_their_place() {
-        let cases: [(&str, usize, usize, &str, &str); 33] = [
+        let cases: [(&str, usize, usize, &str, &str); 38] = [
             (
                 "u = input 0 .. 1\nf = floor w",
                 2,
@@ -726,6 +735,42 @@ mod tests {
                 5,
                 "there is no operation max",
                 "did you mean fmax?",
+            ),
+            (
+                "u = input 0 .. 1\nf = remaindre u 1",
+                2,
+                5,
+                "there is no operation remaindre",
+                "did you mean remainder?",
+            ),
+            (
+                "u = input 0 .. 1\nf = drem u 1",
+                2,
+                5,
+                "there is no operation drem",
+                "did you mean remainder?",
+            ),
+            // rem is fmod in some languages and remainder in others, so that neither is guessed.
+            (
+                "u = input 0 .. 1\nf = rem u 1",
+                2,
+                5,
+                "there is no operation rem",
+                "fmod, ldexp, remainder, sum",
+            ),
+            (
+                "u = input 0 .. 1\nf = remainder u",
+                2,
+                5,
+                "remainder has 2 operands, and 1 stand here",
+                "write remainder A B, where A and B are doubles",
+            ),
+            (
+                "n = input whole 0 .. 1\nf = remainder 1 n",
+                2,
+                17,
+                "n is a whole number, and remainder needs a double there",
+                "to_double n",
             ),
             (
                 "u = input 0 .. 1\nf = floor(u)",

@@ -101,7 +101,7 @@ pub fn answer_text(recipe: &Recipe, answer: Result<Value, TurnedDown>) -> String
 }
 
 /// `refused 32 at u: the input is a NaN or outside its range`. The crate's words for 30 and 31 are of hexadecimal digits, which a decimal frame
-/// does not have.
+/// does not have; those for 20 are of both steps that leave a remainder, and here it is known which of them it was.
 pub fn refusal_text(recipe: &Recipe, refused: TurnedDown, decimal: bool) -> String {
     let number = refused.fault.number();
     match refused.fault {
@@ -112,9 +112,13 @@ pub fn refusal_text(recipe: &Recipe, refused: TurnedDown, decimal: bool) -> Stri
             format!("refused {number}: not a number of the input's kind in the frame")
         }
         fault @ (Fault::Frame | Fault::FrameDigit) => format!("refused {number}: {fault}"),
-        fault => match recipe.names.get(refused.place) {
-            Some(name) => format!("refused {number} at {name}: {fault}"),
-            None => format!("refused {number}: {fault}"),
+        fault => match (recipe.names.get(refused.place), fault) {
+            (Some(name), Fault::Remainder) => {
+                let operation = recipe.steps[refused.place].operation.name();
+                format!("refused {number} at {name}: {operation} of an infinite number, or by zero")
+            }
+            (Some(name), fault) => format!("refused {number} at {name}: {fault}"),
+            (None, fault) => format!("refused {number}: {fault}"),
         },
     }
 }
@@ -231,8 +235,8 @@ mod tests {
         let text =
             |fault, place, decimal| refusal_text(&recipe(), TurnedDown { fault, place }, decimal);
         assert_eq!(
-            text(Fault::Remainder, 2, true),
-            "refused 20 at y: fmod of an infinite number, or by zero"
+            text(Fault::Overflow, 2, true),
+            "refused 21 at y: the answer does not fit"
         );
         assert_eq!(
             text(Fault::Frame, 0, false),
@@ -243,5 +247,25 @@ mod tests {
             "refused 31: not a lower-case hexadecimal digit in the frame"
         );
         assert_eq!(text(Fault::Other(99), 9, true), "refused 99: refusal 99");
+    }
+
+    /// 20 names the step's own operation.
+    #[test]
+    fn refused_remainders() {
+        for operation in [Operation::Fmod, Operation::Remainder] {
+            let mut recipe = recipe();
+            recipe.steps[2].operation = operation;
+            let refused = TurnedDown {
+                fault: Fault::Remainder,
+                place: 2,
+            };
+            assert_eq!(
+                refusal_text(&recipe, refused, true),
+                format!(
+                    "refused 20 at y: {} of an infinite number, or by zero",
+                    operation.name()
+                )
+            );
+        }
     }
 }

@@ -66,8 +66,8 @@ mod tests {
     #[test]
     fn numbers_stand_where_they_are_used() {
         assert_eq!(
-            again("u = input 0 .. 1\nx = fmax u 0.5\ny = fmin 1 2\nz = fmod x 0x1p-1"),
-            "s0 = input 0 .. 1\ns2 = fmax s0 0.5\ns5 = fmin 1 2\ns7 = fmod s2 0.5\n"
+            again("u = input 0 .. 1\nx = fmax u 0.5\ny = fmin 1 2\nz = fmod x 0x1p-1\nw = remainder x 0x1p-2"),
+            "s0 = input 0 .. 1\ns2 = fmax s0 0.5\ns5 = fmin 1 2\ns7 = fmod s2 0.5\ns9 = remainder s2 0.25\n"
         );
     }
 

@@ -492,6 +492,24 @@ mod tests {
             "A is step 0, a double, and sum needs a whole number",
         );
         expect(
+            step("24000100000000000000000000000000000000"),
+            2,
+            5,
+            "B is step 1, which does not stand before step 1",
+        );
+        expect(
+            step("24000000000000000000010000000000000000"),
+            2,
+            7,
+            "remainder does not use P",
+        );
+        expect(
+            step("25000000000000000000000000000000000000"),
+            2,
+            1,
+            "there is no opcode 25",
+        );
+        expect(
             step("0300007ff80000000000000000000000000000"),
             2,
             7,

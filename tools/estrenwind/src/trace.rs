@@ -208,7 +208,7 @@ mod tests {
         }
     }
 
-    /// Two doubles from -4 to 4, their remainder, its floor, and that as a whole number.
+    /// Two doubles from -4 to 4, fmod of the two, its floor, and that as a whole number.
     const REMAINDER: &str = "\
 010000c0100000000000004010000000000000
 010000c0100000000000004010000000000000
@@ -253,6 +253,24 @@ refused 20 at a2: fmod of an infinite number, or by zero
 step 2 is fmod a0 a1
 ";
         assert_eq!(shown(&recipe(REMAINDER, 2), &[0.1, -0.0]), expected);
+    }
+
+    /// The same with the nearest remainder, step 24, in the place of fmod.
+    #[test]
+    fn the_nearest_remainder() {
+        let nearest = recipe(&REMAINDER.replace("\n22", "\n24"), 2);
+        let expected = "\
+step  name  operation        value  bits
+   0  a0    input -4 .. 4     -3.5  c00c000000000000
+   1  a1    input -4 .. 4        2  4000000000000000
+   2  a2    remainder a0 a1    0.5  3fe0000000000000
+   3  a3    floor a2             0  0000000000000000
+   4  a4    lround a3            0  0000000000000000
+";
+        assert_eq!(shown(&nearest, &[-3.5, 2.0]), expected);
+        assert!(shown(&nearest, &[0.1, -0.0]).ends_with(
+            "\nrefused 20 at a2: remainder of an infinite number, or by zero\nstep 2 is remainder a0 a1\n"
+        ));
     }
 
     #[test]
