@@ -1,6 +1,6 @@
 //! The header, docs/FORMATS.md and the manual pages tell the same refusals, and their examples are what the
-//! programs print; the tables of docs/HALVES.md have the reference's answers. The tables of marks have every
-//! opcode once. The version is the same wherever it stands, and the header's sizes are the reference's. docs/CONTRACTS.md names every must-fail edit, and no
+//! programs print; the tables of docs/HALVES.md have the reference's answers. The tables of opcodes and of marks
+//! have every opcode once. The version is the same wherever it stands, and the header's sizes are the reference's. docs/CONTRACTS.md names every must-fail edit, and no
 //! other.
 
 use estrenwind_tests::answer::Answer;
@@ -119,23 +119,19 @@ fn examples_of_the_manual_pages() {
     );
 }
 
-/// The header, the manual page and docs/FORMATS.md have all thirteen reasons, and the recipe that
-/// FORMATS has for each is explained by it.
-#[test]
-fn every_reason_is_told_of() {
-    let header = read("include/estrenwind.h");
-    let page = read("man/explain.1");
+/// The recipes that docs/FORMATS.md has for the reasons, each under the line that explains it.
+fn explained() -> Vec<(String, String)> {
     let formats = read("docs/FORMATS.md");
     let (_, section) = formats
         .split_once("### Why a sheet is refused\n")
         .expect("the heading is there");
     let (section, _) = section.split_once("### ").expect("another one follows");
-    let mut recipes: Vec<(&str, String)> = Vec::new();
+    let mut recipes: Vec<(String, String)> = Vec::new();
     for line in section.lines() {
         let digits = line.trim();
         let is_hex = digits.bytes().all(|byte| byte.is_ascii_hexdigit());
         match (line.len() - line.trim_start().len(), digits.len()) {
-            (4, 6) if is_hex => recipes.push((digits, String::new())),
+            (4, 6) if is_hex => recipes.push((digits.to_string(), String::new())),
             (8, 38) if is_hex => {
                 let (_, recipe) = recipes.last_mut().expect("a line explains the recipe");
                 recipe.push_str(&format!("{digits}\n"));
@@ -143,6 +139,16 @@ fn every_reason_is_told_of() {
             _ => {}
         }
     }
+    recipes
+}
+
+/// The header, the manual page and docs/FORMATS.md have all thirteen reasons, and the recipe that
+/// FORMATS has for each is explained by it.
+#[test]
+fn every_reason_is_told_of() {
+    let header = read("include/estrenwind.h");
+    let page = read("man/explain.1");
+    let recipes = explained();
     assert_eq!(recipes.len(), 13);
     for (code, (line, recipe)) in (1u64..).zip(&recipes) {
         assert_eq!(
@@ -160,6 +166,55 @@ fn every_reason_is_told_of() {
     }
     let names = header.matches("    EW_REASON_").count();
     assert_eq!(names, 14, "thirteen and EW_REASON_NONE");
+}
+
+/// Step 24 shares fmod's refusal and its reasons 01 to 03: it is explained by the same line in the place of fmod,
+/// and every row about them names both.
+#[test]
+fn both_remainders_are_told_of() {
+    for (line, recipe) in &explained()[..3] {
+        let nearest = recipe.replace("\n22", "\n24");
+        assert_ne!(&nearest, recipe);
+        assert_eq!(
+            explain_output(Way::Exact, nearest.as_bytes()),
+            format!("{line}\n").as_bytes()
+        );
+    }
+    for (name, starts, rows) in [
+        (
+            "docs/FORMATS.md",
+            &["| 2 |", "| 20 |", "| 01 | fmod", "| 02, 03 |"][..],
+            4,
+        ),
+        ("man/sheet.1", &["ff14"], 1),
+        ("man/run.1", &["ff14"], 1),
+        ("man/explain.1", &["01\t", "02\t", "03\t"], 3),
+        (
+            "include/estrenwind.h",
+            &[
+                "    EW_REFUSED_REMAINDER",
+                "    EW_REASON_DIVISOR_HOLDS_ZERO",
+                "    EW_REASON_DIVIDEND_LOW_INFINITE",
+            ],
+            3,
+        ),
+    ] {
+        let text = read(name);
+        let is_row = |line: &&str| starts.iter().any(|start| line.starts_with(start));
+        let found: Vec<&str> = text.lines().filter(is_row).collect();
+        assert_eq!(found.len(), rows, "{name}: {found:?}");
+        for row in found {
+            assert!(
+                row.contains("fmod") && row.contains("remainder"),
+                "{name}: {row}"
+            );
+        }
+    }
+    let rules = read("docs/RULES.md");
+    for name in ["| `refusal.20` |", "| `zero` |", "| `dividend` |"] {
+        let row = rules.lines().find(|line| line.starts_with(name)).unwrap();
+        assert!(row.contains("| 22, 24 |"), "{row}");
+    }
 }
 
 /// The indented blocks of docs/FORMATS.md that are a recipe, its sheet, an input of `run` and its answers.
@@ -292,6 +347,35 @@ fn opcodes(cell: &str) -> Vec<u8> {
         number(low)..=number(high)
     };
     cell.split(',').flat_map(range).collect()
+}
+
+/// FORMATS, its text form and the manual page of sheet have a table with every opcode, each once and in order.
+#[test]
+fn every_opcode_is_in_the_tables() {
+    let formats = read("docs/FORMATS.md");
+    let cells = |start: &str, end: &str, column: usize| -> Vec<u8> {
+        let (_, section) = formats.split_once(start).unwrap();
+        let (section, _) = section.split_once(end).unwrap();
+        let rows = section.lines().filter(|line| line.starts_with("| "));
+        let cell = |row: &str| row.split('|').nth(column).unwrap().trim().to_string();
+        let cells = rows.map(cell);
+        let numbers = cells.filter(|cell| cell.starts_with(|c: char| c.is_ascii_digit()));
+        numbers.flat_map(|cell| opcodes(&cell)).collect()
+    };
+    let page = read("man/sheet.1");
+    let (_, table) = page.split_once("\\fBOpcode\\fR\t\\fBStep\\fR\n").unwrap();
+    let (table, _) = table.split_once(".TE").unwrap();
+    let in_page: Vec<u8> = table
+        .lines()
+        .flat_map(|row| opcodes(row.split_once('\t').unwrap().0))
+        .collect();
+    let all: Vec<u8> = OPERATIONS
+        .iter()
+        .map(|operation| operation.opcode)
+        .collect();
+    assert_eq!(cells("## Recipe\n", "### Text form\n", 1), all);
+    assert_eq!(cells("### Text form\n", "## Sheet\n", 2), all);
+    assert_eq!(in_page, all);
 }
 
 /// The rules by opcode, each once, of rows that have the opcodes in one cell and the rule in another.

@@ -78,17 +78,63 @@ fn examples() {
             &["run", "--trace", "1", &source, &frames],
             &["run", "--trace", "3", "--decimal", &source, &decimal],
         ];
-        let text: String = commands
-            .iter()
-            .map(|arguments| {
-                let ran = estrenwind(arguments, "");
-                fits_80_columns(&ran.output);
-                fits_80_columns(&ran.errors);
-                shown(arguments, ran)
-            })
-            .collect();
-        compare(name, &text);
+        compare(name, &all_shown(&commands, ""));
     }
+}
+
+/// Each command with these arguments, and what came of it, in 80 columns.
+fn all_shown(commands: &[&[&str]], input: &str) -> String {
+    let one = |arguments: &&[&str]| {
+        let ran = estrenwind(arguments, input);
+        fits_80_columns(&ran.output);
+        fits_80_columns(&ran.errors);
+        shown(arguments, ran)
+    };
+    commands.iter().map(one).collect()
+}
+
+/// The nearest remainder: its variant of the camera's heading, and what is said where it is refused, of a recipe and of a frame.
+#[test]
+fn nearest_remainder() {
+    let file = |file: &str| format!("examples/camera_wrap/{file}");
+    let [source, recipe, frames, decimal] =
+        ["nearest.ew", "nearest", "frames", "frames.txt"].map(file);
+    let mut text = all_shown(
+        &[
+            &["check", &source],
+            &["sheet", &source],
+            &["dis", &recipe],
+            &["run", "--quiet", &source, &frames],
+            &["run", "--quiet", "--decimal", &source, &decimal],
+            &["run", "--trace", "8", "--decimal", &source, &decimal],
+        ],
+        "",
+    );
+    for recipe in [
+        "u = input -4096 .. 4096\nw = input 0 .. 64\nx = remainder u w\n",
+        "u = input -inf .. 1\nx = remainder u 360\n",
+        "u = input 1 .. inf\nv = negate u\nx = remainder u v\n",
+        "x = remainder 1 0\n",
+    ] {
+        text += recipe;
+        text += &all_shown(&[&["check", "-"], &["explain", "-"]], recipe);
+    }
+    let folder = std::env::temp_dir().join(format!("estrenwind-nearest-{}", std::process::id()));
+    fs::create_dir_all(&folder).unwrap();
+    let path = folder.join("tile.ew");
+    fs::write(&path, "u = input -inf .. inf\nx = remainder u 360\n").unwrap();
+    let path = path.to_str().unwrap();
+    let frames = "350\n-inf\n-540\n";
+    let ran = all_shown(
+        &[
+            &["run", "--quiet", "--decimal", path],
+            &["run", "--trace", "2", "--decimal", path],
+        ],
+        frames,
+    );
+    fs::remove_dir_all(&folder).unwrap();
+    text += &ran.replace(path, "tile.ew");
+    compare("nearest_remainder", &text);
 }
 
 /// Each text, and what check says of it.
@@ -96,6 +142,7 @@ fn examples() {
 fn slips_in_the_text_form() {
     let texts = [
         "u = input 0 .. 1\nwidth = input 1 .. 64\nx = fmod u widht\ny = flor x\n",
+        "u = input 0 .. 1\nx = remaindr u 0.25\ny = remainder u\nz = rem u 0.25\n",
         "u = input 0 .. 1\nu = input 1 .. 2\n",
         "y = floor u\nu = input 0 .. 1\n",
         "u = input 1 .. 0\n",

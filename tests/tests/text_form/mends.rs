@@ -5,6 +5,9 @@ use estrenwind_tests::patterns::Random;
 use estrenwind_tests::recipes::reasons::{FACTS, PLACES};
 use std::collections::BTreeMap;
 
+const FMOD: u8 = 0x22;
+const REMAINDER: u8 = 0x24;
+
 /// A recipe with every step on a line of its own, so that the place of a line is the number of its step.
 fn plain_lines(recipe: &str) -> Vec<String> {
     let mut lines = Vec::new();
@@ -138,51 +141,80 @@ fn is_the_program_s(recipe: &str, shown: &str, k: usize) {
     assert!(named, "{operand} is not in {sentence}");
 }
 
+/// Makes each mend that is told of a recipe whose step k is refused, for the reason of this code; and says how many there were.
+fn mends_that_help(recipe: &str, k: usize, code: u8) -> usize {
+    let ran = estrenwind(&["explain", "-"], recipe);
+    assert_eq!(ran.status, 3);
+    is_the_program_s(recipe, &ran.output, k);
+    let sentence = ran.output.split("\n\n").last().unwrap().replace('\n', " ");
+    let (_, changes) = sentence.trim().rsplit_once(": ").unwrap();
+    let changes: Vec<&str> = changes.split(", or ").collect();
+    if !["declare ", "put ", "take "]
+        .iter()
+        .any(|verb| changes[0].starts_with(verb))
+        || changes[0].starts_with("declare the")
+    {
+        return 0;
+    }
+    let lines = plain_lines(recipe);
+    assert_eq!(lines.len(), recipe.lines().count());
+    for change in &changes {
+        let mended = mended(&lines, &format!("s{k}"), change, code == 1);
+        // Up to the step alone: what follows may be refused for reasons of its own, and may not fit the most steps any more.
+        let end = mended
+            .iter()
+            .position(|line| line.starts_with(&format!("s{k} = ")))
+            .unwrap();
+        let front = mended[..=end].join("\n") + "\n";
+        let ran = estrenwind(&["check", "-"], &front);
+        assert_eq!(ran.status, 0, "{change}\n{}{}", ran.output, ran.errors);
+    }
+    changes.len()
+}
+
 #[test]
 fn every_mend_helps() {
     let mut random = Random::new(74);
-    let mut told: BTreeMap<u8, usize> = BTreeMap::new();
+    // By opcode and code.
+    let mut told: BTreeMap<(u8, u8), usize> = BTreeMap::new();
     for _ in 0..4 {
         for facts in &FACTS {
             for place in PLACES {
                 let (draft, k) = random.turned_down(facts, place, false);
                 let recipe = String::from_utf8(draft.explain_call().text).unwrap();
-                let ran = estrenwind(&["explain", "-"], &recipe);
-                assert_eq!(ran.status, 3);
-                is_the_program_s(&recipe, &ran.output, k);
-                let sentence = ran.output.split("\n\n").last().unwrap().replace('\n', " ");
-                let (_, changes) = sentence.trim().rsplit_once(": ").unwrap();
-                let changes: Vec<&str> = changes.split(", or ").collect();
-                if !["declare ", "put ", "take "]
-                    .iter()
-                    .any(|verb| changes[0].starts_with(verb))
-                    || changes[0].starts_with("declare the")
-                {
-                    continue;
-                }
-                let lines = plain_lines(&recipe);
-                assert_eq!(lines.len(), draft.lines.len());
-                for change in changes {
-                    *told.entry(facts.codes[0]).or_default() += 1;
-                    let is_divisor = facts.codes[0] == 1;
-                    let mended = mended(&lines, &format!("s{k}"), change, is_divisor);
-                    // Up to the step alone: what follows may be refused for reasons of its own, and may not fit the most steps any more.
-                    let end = mended
-                        .iter()
-                        .position(|line| line.starts_with(&format!("s{k} = ")))
-                        .unwrap();
-                    let front = mended[..=end].join("\n") + "\n";
-                    let ran = estrenwind(&["check", "-"], &front);
-                    assert_eq!(ran.status, 0, "{change}\n{}{}", ran.output, ran.errors);
+                let code = facts.codes[0];
+                *told.entry((facts.opcode, code)).or_default() += mends_that_help(&recipe, k, code);
+                if facts.opcode == FMOD {
+                    // The nearest remainder of the same operands is refused for the same reason.
+                    let mut recipe = recipe;
+                    recipe.replace_range(39 * k..39 * k + 2, &format!("{REMAINDER:02x}"));
+                    *told.entry((REMAINDER, code)).or_default() +=
+                        mends_that_help(&recipe, k, code);
                 }
             }
         }
     }
+    let count = |is_counted: &dyn Fn(u8, u8) -> bool| -> usize {
+        let counted = told
+            .iter()
+            .filter(|(&(opcode, code), _)| is_counted(opcode, code));
+        counted.map(|(_, count)| count).sum()
+    };
     for code in 1..=13 {
-        let count = told.get(&code).copied().unwrap_or_default();
+        let count = count(&|_, of| of == code);
         assert!(
             count >= 4,
             "reason {code} had a mend {count} times: {told:?}"
+        );
+    }
+    for (opcode, code) in [FMOD, REMAINDER]
+        .into_iter()
+        .flat_map(|opcode| (1..=3).map(move |code| (opcode, code)))
+    {
+        let count = count(&|by, of| (by, of) == (opcode, code));
+        assert!(
+            count >= 4,
+            "reason {code} of {opcode:02x} had a mend {count} times: {told:?}"
         );
     }
 }

@@ -126,6 +126,12 @@ fn refusals_of_steps() {
         "lround (18)",
     );
     told(
+        format!("020000{:032}\n2400{:034}\n", 0, 0),
+        "2:3",
+        "refused 15 (ff0f01): A is step 0, a whole number, and remainder needs a double there",
+        "to_double (32)",
+    );
+    told(
         step("0300007ff8"),
         "2:7",
         "refused 16 (ff1001): P is a NaN",
