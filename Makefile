@@ -209,5 +209,5 @@ fmt:  ## put Rattle and Rust sources in their layout
 clean:  ## remove everything that was built
 	rm -rf build target tests/target bindings/rust/target tools/estrenwind/target
 
-.PHONY: help build demo roundings quadrant install uninstall test test-c test-peers test-rust test-bindings test-command test-install test-processors zero-rules \
-	processors-deps faults-deps farm-deps test-endless test-exhaustive bench bench-deps fmt clean
+.PHONY: help build demo roundings quadrant install uninstall test test-c test-peers test-rust test-bindings test-command test-install test-processors \
+	zero-rules processors-deps faults-deps farm-deps test-endless test-exhaustive bench bench-deps fmt clean

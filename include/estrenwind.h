@@ -401,7 +401,7 @@ typedef struct { float value; int32_t quotient; uint64_t refusal; } ew_float_rem
 
 /*
  * ew_remquo returns what ew_remainder does, and a quotient: the sign of x / y on the magnitude of n modulo 8, so from -7 to 7. Where
- * n is 8 it is 0, where n is -9 it is -1.
+ * n is 8 it is 0, where n is -9 it is -1. Its low three bits are those of n: of quarter turns, two of them name the quarter.
  *
  * Special cases are:
  *     remquo(±0, y) = ±0, 0 for y not zero

@@ -160,7 +160,7 @@ impl fmt::Display for Explanation {
 /// ```
 /// use estrenwind::{explain, Cause, Explanation};
 ///
-/// // Two inputs, from -1 to 1 and from 0 to 1, and the remainder of the first by the second.
+/// // Two inputs, from -1 to 1 and from 0 to 1, and fmod of the first by the second.
 /// let recipe = b"010000bff00000000000003ff0000000000000\n\
 ///                01000000000000000000003ff0000000000000\n\
 ///                22000100000000000000000000000000000000\n";

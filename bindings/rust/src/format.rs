@@ -115,6 +115,7 @@ pub enum Operation {
     Fmax,
     Fmod,
     Ldexp,
+    /// A less the nearest multiple of B, halves to even.
     Remainder,
     /// A + B of whole numbers.
     Sum,

@@ -257,7 +257,7 @@ pub fn run(recipe: &[u8], frame: &[u8], words: &mut [u64]) -> Result<Value, Turn
 /// let whole = |step: usize| Range::read(&lines[SHEET_LINE * step..][..SHEET_LINE - 1]).unwrap().whole;
 /// assert!(whole(1) && !whole(0));
 ///
-/// // The remainder of a number by itself, which may be zero.
+/// // fmod of a number by itself, which may be zero.
 /// let refused = sheet(b"010000c004000000000000401d000000000000\n\
 ///                       22000000000000000000000000000000000000\n", &mut lines).unwrap_err();
 /// assert_eq!((refused.fault, refused.place), (Fault::Remainder, 1));
