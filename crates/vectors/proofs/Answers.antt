@@ -8,7 +8,7 @@ use borrow.Author.Tests.{ne-eqb}
 use Rattle.float_format.specs.Format.{Format, binary16, binary32, binary64}
 use Rattle.conversion.specs.Conversion.{converted, convertedRefusal}
 use Rattle.vectors.specs.declared.case.Case.{Case}
-use Rattle.vectors.specs.Answer.{words, unknownAnswer, wholeAnswer, furtherAt, answerAt, singleAt, halfAt, answerOf}
+use Rattle.vectors.specs.Answer.{words, unknownAnswer, wholeAnswer, nearestAt, furtherAt, answerAt, singleAt, halfAt, answerOf}
 
 -- ---- by its parts
 
@@ -47,13 +47,13 @@ unlisted f k x y n h =
       ne-eqb k 25 (h .1),
     )
 
-abbrev pub Unknown : ℕ → Type 0
-Unknown n =
+abbrev pub Further : ℕ → Type 0
+Further n =
     ((((((Unit {0} × (n ≡ 21 → ⊥)) × (n ≡ 32 → ⊥)) × (n ≡ 33 → ⊥)) × (n ≡ 34 → ⊥)) × (n ≡ 35 → ⊥)) × (n ≡ 36 → ⊥)) × (n ≡ 37 → ⊥)
 
-pub unknown : (f : Format) (function x y : ℕ) (n : ℤ) → Unknown function → unknownAnswer ≡ furtherAt f function x y n
+pub not-further : (f : Format) (function x y : ℕ) (n : ℤ) → Further function → nearestAt f function x y ≡ furtherAt f function x y n
 unfolding furtherAt
-unknown f k x y n h =
+not-further f k x y n h =
     simp (
       ne-eqb k 21 (h .0 .0 .0 .0 .0 .0 .1),
       ne-eqb k 32 (h .0 .0 .0 .0 .0 .1),
@@ -63,6 +63,13 @@ unknown f k x y n h =
       ne-eqb k 36 (h .0 .1),
       ne-eqb k 37 (h .1),
     )
+
+pub nearest : (f : Format) (x y : ℕ) {function k : ℕ} → function ≡ k → nearestAt f k x y ≡ nearestAt f function x y
+nearest f x y e = sym (ap (λ (k : ℕ). nearestAt f k x y) e)
+
+pub unknown : (f : Format) (function x y : ℕ) → (Unit {0} × (function ≡ 38 → ⊥)) × (function ≡ 39 → ⊥) → unknownAnswer ≡ nearestAt f function x y
+unfolding nearestAt
+unknown f k x y h = simp (ne-eqb k 38 (h .0 .1), ne-eqb k 39 (h .1))
 
 -- of an f32 and of a half
 pub exported : (function x y : ℕ) (n : ℤ) → function ≡ 27 → words (convertedRefusal binary32 binary16 x) (converted binary32 binary16 x) 0 ≡ singleAt function x y n

@@ -12,6 +12,7 @@ use Rattle.conversion.specs.Conversion.{converted, convertedRefusal}
 use Rattle.splitting.specs.Splitting.{modfWhole, modfFraction}
 use Rattle.scaling.specs.Scaling.{frexpFraction, frexpExponent, ldexp, ldexpRefusal}
 use Rattle.remainder.specs.Remainder.{fmod, fmodRefusal}
+use Rattle.nearest_remainder.specs.Nearest.{remainder, remquoQuotient}
 use Rattle.ordering.specs.Ordering.{nextafter, nextafterRefusal, fmin, fmax}
 use Rattle.vectors.specs.declared.case.Case.{Case}
 use Rattle.vectors.specs.declared.answer.Answer.{Answer}
@@ -32,8 +33,13 @@ patternAnswer x = words 0 x 0
 abbrev pub wholeAnswer : ℕ → ℤ → Answer
 wholeAnswer refusal z = words refusal (ofZ w64 z) 0
 
--- A function by its number, at a format. The numbers are decimal here: 16 is a line's 10. First those that answer with more than a word or
--- take a second operand, which is the pattern y or the number n; then those of one.
+-- A function by its number, at a format. The numbers are decimal here: 16 is a line's 10. First the nearest remainders; then the others that answer
+-- with more than a word or take a second operand, which is the pattern y or the number n; then those of one.
+unfoldable pub nearestAt : Format → ℕ → ℕ → ℕ → Answer
+nearestAt f function x y =
+    cond (eqb function 38) (words (fmodRefusal f x y) (remainder f x y) 0)
+    (cond (eqb function 39) (words (fmodRefusal f x y) (remainder f x y) (ofZ w64 (remquoQuotient f x y))) unknownAnswer)
+
 unfoldable pub furtherAt : Format → ℕ → ℕ → ℕ → ℤ → Answer
 furtherAt f function x y n =
     cond (eqb function 21) (words 0 (modfWhole f x) (modfFraction f x))
@@ -42,7 +48,7 @@ furtherAt f function x y n =
     (cond (eqb function 34) (words (fmodRefusal f x y) (fmod f x y) 0)
     (cond (eqb function 35) (words (ldexpRefusal f x n) (ldexp f x n) 0)
     (cond (eqb function 36) (words (nextafterRefusal f x y) (nextafter f x y) 0)
-    (cond (eqb function 37) (words 0 (frexpFraction f x) (ofZ w64 (frexpExponent f x))) unknownAnswer))))))
+    (cond (eqb function 37) (words 0 (frexpFraction f x) (ofZ w64 (frexpExponent f x))) (nearestAt f function x y)))))))
 
 unfoldable pub answerAt : Format → ℕ → ℕ → ℕ → ℤ → Answer
 answerAt f function x y n =

@@ -74,6 +74,18 @@ impl Answer {
         Self::parts(fraction, second)
     }
 
+    // A refusal's number, the word returned, and a quotient.
+    pub(crate) fn divided(refusal: u64, remainder: u64, quotient: i32) -> Answer
+        ensures { λ r. ⌜ r ≡ words refusal remainder (ofZ w64 quotient) ⌝ }
+    {
+        let second = word(quotient as i64);
+        Answer {
+            refusal,
+            first: remainder,
+            second,
+        }
+    }
+
     // The number of a class.
     pub(crate) fn class(c: Class) -> Answer
         ensures { λ r. ⌜ r ≡ patternAnswer (classNumber c) ⌝ }

@@ -5,7 +5,7 @@ ghost use lib.ListN.{length};
 ghost use Rattle.float_format.specs.Format.{binary32, binary64};
 ghost use mir.Syntax.{w64};
 ghost use mir.Val.{toZ};
-ghost use Rattle.vectors.specs.Answer.{furtherAt, answerAt, singleAt, halfAt, answerOf};
+ghost use Rattle.vectors.specs.Answer.{nearestAt, furtherAt, answerAt, singleAt, halfAt, answerOf};
 ghost use Rattle.vectors.specs.Line.{separatedBy, caseOf};
 use crate::answer::Answer;
 use float_format::Binary32;
@@ -141,6 +141,24 @@ impl Case {
                 let r = scaling::binary64::frexp(x);
                 Answer::scaled(r.fraction, r.exponent)
             }
+            _ => self.nearest64(),
+        }
+    }
+
+    // The nearest remainders.
+    fn nearest64(self) -> Answer
+        ensures { λ r. ⌜ r ≡ nearestAt binary64 (self .function) (self .x) (self .y) ⌝ }
+    {
+        let function = self.function;
+        match function {
+            0x26 => {
+                let r = nearest_remainder::binary64::remainder(self.x, self.y);
+                Answer::refusable(r.refusal, r.word)
+            }
+            0x27 => {
+                let r = nearest_remainder::binary64::remquo(self.x, self.y);
+                Answer::divided(r.refusal as u64, r.word, r.quotient)
+            }
             _ => Answer::unknown(),
         }
     }
@@ -225,6 +243,25 @@ impl Case {
             0x25 => {
                 let r = scaling::binary32::frexp(x);
                 Answer::scaled(r.fraction as u64, r.exponent)
+            }
+            _ => self.nearest32(),
+        }
+    }
+
+    fn nearest32(self) -> Answer
+        ensures { λ r. ⌜ r ≡ nearestAt binary32 (self .function) (self .x % 2 ^ 32) (self .y % 2 ^ 32) ⌝ }
+    {
+        let function = self.function;
+        let x = (self.x % 0x1_0000_0000) as u32;
+        let y = (self.y % 0x1_0000_0000) as u32;
+        match function {
+            0x26 => {
+                let r = nearest_remainder::binary32::remainder(x, y);
+                Answer::refusable(r.refusal, r.word as u64)
+            }
+            0x27 => {
+                let r = nearest_remainder::binary32::remquo(x, y);
+                Answer::divided(r.refusal, r.word as u64, r.quotient)
             }
             _ => Answer::unknown(),
         }

@@ -6,7 +6,7 @@ use mir.Val.{ofZ, toZ}
 use Rattle.float_format.specs.Format.{binary32}
 use Rattle.scaling.specs.Scaling.{ldexp, ldexpRefusal}
 use Rattle.vectors.specs.Answer.{patternAnswer, furtherAt}
-use Rattle.vectors.proofs.Answers.{three, further, unknown}
+use Rattle.vectors.proofs.Answers.{three, further, not-further}
 use borrow.Author.Needs.{needs}
 use Rattle.vectors.proofs.case.Case.further32.Statement.{statement}
 use Rattle.vectors.proofs.case.Case.further32.Tie as tie
@@ -86,8 +86,8 @@ cast-scaled c = search needs
 scaled-requires : tie.Need-scaled-requires
 scaled-requires c κs = search needs
 
-unknown-requires : tie.Need-unknown-requires
-unknown-requires c κs = search needs
+nearest32-requires : tie.Need-nearest32-requires
+nearest32-requires c κs = search needs
 
 returns : tie.Need-returns
 unfolding furtherAt
@@ -118,7 +118,7 @@ unfolding furtherAt
 returns-7 c = let z = c .before .before .before .frexp .result .exponent in let i : toZ w64 (ofZ w64 z) ≡ z = search needs in c .scaled .ensures ∙ three refl (c .before .before .before .frexp .ensures .0) (ap (ofZ w64) (i ∙ c .before .before .before .frexp .ensures .1)) ∙ further binary32 _ (c .before .before .before .before .before .before .before .before .args .self .y % 2 ^ 32) (toZ w64 (c .before .before .before .before .before .before .before .before .args .self .y)) (c .before .before .before .before .match .keys7)
 
 returns-8 : tie.Need-returns-8
-returns-8 c = c .unknown .ensures ∙ unknown binary32 _ _ _ _ (c .before .match .rest)
+returns-8 c = c .nearest32 .ensures ∙ not-further binary32 _ _ _ _ (c .before .match .rest)
 
 pub further32-spec : {M : Type 1} → statement M
 further32-spec =
@@ -149,7 +149,7 @@ further32-spec =
     frexp-requires
     cast-scaled
     scaled-requires
-    unknown-requires
+    nearest32-requires
     returns
     returns-2
     returns-3

@@ -5,7 +5,7 @@ use mir.Val.{ofZ, toZ}
 use Rattle.float_format.specs.Format.{binary64}
 use Rattle.scaling.specs.Scaling.{ldexp, ldexpRefusal}
 use Rattle.vectors.specs.Answer.{patternAnswer, furtherAt}
-use Rattle.vectors.proofs.Answers.{three, further, unknown}
+use Rattle.vectors.proofs.Answers.{three, further, not-further}
 use borrow.Author.Needs.{needs}
 use Rattle.vectors.proofs.case.Case.further64.Statement.{statement}
 use Rattle.vectors.proofs.case.Case.further64.Tie as tie
@@ -55,8 +55,8 @@ frexp-requires c κs = search needs
 scaled-requires : tie.Need-scaled-requires
 scaled-requires c κs = search needs
 
-unknown-requires : tie.Need-unknown-requires
-unknown-requires c κs = search needs
+nearest64-requires : tie.Need-nearest64-requires
+nearest64-requires c κs = search needs
 
 returns : tie.Need-returns
 unfolding furtherAt
@@ -87,7 +87,7 @@ unfolding furtherAt
 returns-7 c = let z = c .before .before .frexp .result .exponent in let i : toZ w64 (ofZ w64 z) ≡ z = search needs in c .scaled .ensures ∙ three refl (c .before .before .frexp .ensures .0) (ap (ofZ w64) (i ∙ c .before .before .frexp .ensures .1)) ∙ further binary64 _ (c .before .before .before .before .args .self .y) (toZ w64 (c .before .before .before .before .args .self .y)) (c .before .before .before .match .keys7)
 
 returns-8 : tie.Need-returns-8
-returns-8 c = c .unknown .ensures ∙ unknown binary64 _ _ _ _ (c .before .match .rest)
+returns-8 c = c .nearest64 .ensures ∙ not-further binary64 _ _ _ _ (c .before .match .rest)
 
 pub further64-spec : {M : Type 1} → statement M
 further64-spec =
@@ -108,7 +108,7 @@ further64-spec =
     refusable-requires-3
     frexp-requires
     scaled-requires
-    unknown-requires
+    nearest64-requires
     returns
     returns-2
     returns-3
