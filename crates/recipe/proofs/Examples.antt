@@ -41,23 +41,27 @@ examples =
     -- 11: an upper-case digit; a space for a line feed
     ∷ (lines ("010000C004000000000000401d000000000000" ∷ []) gives refused 11 0)
     ∷ ((bytes "010000c004000000000000401d000000000000 ") gives refused 11 0)
-    -- 12: there is no opcode 19, nor 00
+    -- 12: there is no opcode 19, nor 25, nor 00
     ∷ (lines ("010000c004000000000000401d000000000000" ∷ "19000000000000000000000000000000000000" ∷ []) gives refused 12 1)
+    ∷ (lines ("010000c004000000000000401d000000000000" ∷ "25000000000000000000000000000000000000" ∷ []) gives refused 12 1)
     ∷ (lines ("00000000000000000000000000000000000000" ∷ []) gives refused 12 0)
     -- 13: floor with a Q; before 14, with an operand ahead
     ∷ (lines ("010000c004000000000000401d000000000000" ∷ "10000000000000000000000000000000000001" ∷ []) gives refused 13 1)
     ∷ (lines ("10050000000000000000000000000000000001" ∷ []) gives refused 13 0)
     -- 14: a step that names itself
     ∷ (lines ("010000c004000000000000401d000000000000" ∷ "10010000000000000000000000000000000000" ∷ []) gives refused 14 1)
-    -- 15: lround of lround's whole; ldexp by a double
+    -- 15: lround of lround's whole; ldexp by a double; remainder by a whole
     ∷ (lines ("010000c004000000000000401d000000000000" ∷ "18000000000000000000000000000000000000" ∷ "18010000000000000000000000000000000000" ∷ []) gives refused 15 2)
     ∷ (lines ("010000c004000000000000401d000000000000" ∷ "23000000000000000000000000000000000000" ∷ []) gives refused 15 1)
+    ∷ (lines ("010000c004000000000000401d000000000000" ∷ "18000000000000000000000000000000000000" ∷ "24000100000000000000000000000000000000" ∷ []) gives refused 15 2)
     -- 16: P above Q, of doubles and of wholes; a NaN
     ∷ (lines ("010000401d000000000000c004000000000000" ∷ []) gives refused 16 0)
     ∷ (lines ("0200000000000000000000ffffffffffffffff" ∷ []) gives refused 16 0)
     ∷ (lines ("0300007ff80000000000000000000000000000" ∷ []) gives refused 16 0)
     -- 17: a seventeenth input
     ∷ (lines (replicate 17 "010000c004000000000000401d000000000000") gives refused 17 16)
+    -- remainder by a constant, 1, passes
+    ∷ (lines ("010000c004000000000000401d000000000000" ∷ "0300003ff00000000000000000000000000000" ∷ "24000100000000000000000000000000000000" ∷ []) gives steps (step 0x01 0 0 0xc004_0000_0000_0000 0x401d_0000_0000_0000 ∷ step 0x03 0 0 0x3ff0_0000_0000_0000 0 ∷ step 0x24 0 1 0 0 ∷ []))
     -- wholes from -1 to 0 pass
     ∷ (lines ("020000ffffffffffffffff0000000000000000" ∷ []) gives steps (step 0x02 0 0 0xffff_ffff_ffff_ffff 0 ∷ []))
     ∷ []

@@ -1,5 +1,6 @@
 -- The step table between its single opcodes: which row a range of opcodes has, and that the gaps have none. From opcode 10 on the table has
--- three blocks, each a range and one opcode after it; a block is passed over, before or after it, or entered. Assumes nothing.
+-- three blocks, each a range and one opcode after it, and 24 between the last two; a block is passed over, before or after it, or entered. Assumes
+-- nothing.
 use mathlib.Core.Path.{_≡_, _∙_}
 use mathlib.Core.Bool.{cond}
 use Prim.Native.Nat.{ℕ, _≤_, _<_}
@@ -44,12 +45,18 @@ module _ (b : Block) (n : ℕ) (z : Row) where
 
 -- ---- the rows of ranges and gaps
 
--- after the inputs and constants the table is the three blocks
+-- after the inputs and constants the table is the three blocks, with 24 alone before the last
 abbrev from30 : ℕ → Row
 from30 n = look thirties n Unknown
 
+abbrev from24 : ℕ → Row
+from24 n = cond (eqb n 0x24) (Binary Double Double Double) (from30 n)
+
 abbrev from20 : ℕ → Row
-from20 n = look twenties n (from30 n)
+from20 n = look twenties n (from24 n)
+
+not-24 : (n : ℕ) → (n ≡ 0x24 → ⊥) → from24 n ≡ from30 n
+not-24 n e = rw (ne-eqb n 0x24 e)
 
 blocks : (n : ℕ) → (n ≡ 1 → ⊥) → (n ≡ 2 → ⊥) → (n ≡ 3 → ⊥) → (n ≡ 4 → ⊥) → rowOf n ≡ look tens n (from20 n)
 unfolding rowOf
@@ -59,7 +66,8 @@ pub before-10 : (n : ℕ) → n < 0x10 → (n ≡ 1 → ⊥) → (n ≡ 2 → �
 before-10 n h not1 not2 not3 not4 =
     blocks n not1 not2 not3 not4
     ∙ before tens n (from20 n) h (λ e. omega arith)
-    ∙ before twenties n (from30 n) (omega arith) (λ e. omega arith)
+    ∙ before twenties n (from24 n) (omega arith) (λ e. omega arith)
+    ∙ not-24 n (λ e. omega arith)
     ∙ before thirties n Unknown (omega arith) (λ e. omega arith)
 
 module _ (n : ℕ) where
@@ -73,19 +81,19 @@ module _ (n : ℕ) where
   after-18 l = from-10-on (omega arith) ∙ after tens n (from20 n) (omega arith) (omega arith) (λ e. omega arith)
 
   pub before-20 : 0x18 < n → n < 0x20 → rowOf n ≡ Unknown
-  before-20 l h = after-18 l ∙ before twenties n (from30 n) h (λ e. omega arith) ∙ before thirties n Unknown (omega arith) (λ e. omega arith)
+  before-20 l h = after-18 l ∙ before twenties n (from24 n) h (λ e. omega arith) ∙ not-24 n (λ e. omega arith) ∙ before thirties n Unknown (omega arith) (λ e. omega arith)
 
   pub from-20 : 0x20 ≤ n → n < 0x23 → rowOf n ≡ Binary Double Double Double
-  from-20 l h = after-18 (omega arith) ∙ inside twenties n (from30 n) l (omega arith)
+  from-20 l h = after-18 (omega arith) ∙ inside twenties n (from24 n) l (omega arith)
 
-  after-23 : 0x23 < n → rowOf n ≡ from30 n
-  after-23 l = after-18 (omega arith) ∙ after twenties n (from30 n) (omega arith) (omega arith) (λ e. omega arith)
+  after-24 : 0x24 < n → rowOf n ≡ from30 n
+  after-24 l = after-18 (omega arith) ∙ after twenties n (from24 n) (omega arith) (omega arith) (λ e. omega arith) ∙ not-24 n (λ e. omega arith)
 
-  pub before-30 : 0x23 < n → n < 0x30 → rowOf n ≡ Unknown
-  before-30 l h = after-23 l ∙ before thirties n Unknown h (λ e. omega arith)
+  pub before-30 : 0x24 < n → n < 0x30 → rowOf n ≡ Unknown
+  before-30 l h = after-24 l ∙ before thirties n Unknown h (λ e. omega arith)
 
   pub from-30 : 0x30 ≤ n → n < 0x32 → rowOf n ≡ Binary Whole Whole Whole
-  from-30 l h = after-23 (omega arith) ∙ inside thirties n Unknown l (omega arith)
+  from-30 l h = after-24 (omega arith) ∙ inside thirties n Unknown l (omega arith)
 
   pub after-32 : 0x32 < n → rowOf n ≡ Unknown
-  after-32 l = after-23 (omega arith) ∙ after thirties n Unknown (omega arith) (omega arith) (λ e. omega arith)
+  after-32 l = after-24 (omega arith) ∙ after thirties n Unknown (omega arith) (omega arith) (λ e. omega arith)

@@ -1,4 +1,4 @@
--- The step table (document 01, "Recipe text"): what each opcode takes and gives. The reader goes by it, and the run to tell its inputs; the step
+-- The step table (document 01, "Recipe text", and step 24 of document 02, W-204): what each opcode takes and gives. The reader goes by it, and the run to tell its inputs; the step
 -- and range rules go by the opcode itself. Definitions only; assumes nothing.
 use mathlib.Core.Bool.{Bool, true, false, _&&_, cond}
 use Prim.Native.Nat.{ℕ}
@@ -22,12 +22,13 @@ rowOf opcode =
     -- 10 to 14 the roundings, 15 modf's fraction, 16 fabs, 17 negate; 18 lround
     (cond (within 0x10 0x17 opcode) (Unary Double Double)
     (cond (eqb opcode 0x18) (Unary Double Whole)
-    -- 20, 21 fmin, fmax; 22 fmod; 23 ldexp
+    -- 20, 21 fmin, fmax; 22 fmod; 23 ldexp; 24 remainder
     (cond (within 0x20 0x22 opcode) (Binary Double Double Double)
     (cond (eqb opcode 0x23) (Binary Double Whole Double)
+    (cond (eqb opcode 0x24) (Binary Double Double Double)
     -- 30, 31 whole sum and difference; 32 whole to double
     (cond (within 0x30 0x31 opcode) (Binary Whole Whole Whole)
-    (cond (eqb opcode 0x32) (Unary Whole Double) Unknown)))))))))
+    (cond (eqb opcode 0x32) (Unary Whole Double) Unknown))))))))))
 
 -- the kind of a step's value
 abbrev pub answerKind : Row → Kind

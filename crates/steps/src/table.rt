@@ -1,4 +1,4 @@
-// The step table (document 01, "Recipe text"). What the reader asks of an opcode, and whether the run takes an input for it, is read off its row.
+// The step table (document 01, "Recipe text", and step 24 of document 02, W-204). What the reader asks of an opcode, and whether the run takes an input for it, is read off its row.
 ghost use mathlib.Core.Path.{_≡_};
 ghost use Rattle.recipe.specs.Table.{rowOf, answerKind, isInput, sameKind, kindNumber};
 use recipe::Kind;
@@ -32,6 +32,9 @@ pub fn row_of(opcode: u8) -> Row
     }
     if opcode == 0x23 {
         return Row::Binary(Kind::Double, Kind::Whole, Kind::Double);
+    }
+    if opcode == 0x24 {
+        return Row::Binary(Kind::Double, Kind::Double, Kind::Double);
     }
     if opcode < 0x30 {
         return Row::Unknown;

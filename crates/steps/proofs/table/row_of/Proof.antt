@@ -43,17 +43,21 @@ unfolding rowOf
 returns-10 c = sym (ap rowOf (c .if6 .taken))
 
 returns-11 : tie.Need-returns-11
-returns-11 c = sym (before-30 (c .before .before .before .before .before .before .before .args .opcode) (omega arith) (omega arith))
+unfolding rowOf
+returns-11 c = sym (ap rowOf (c .if7 .taken))
 
 returns-12 : tie.Need-returns-12
-returns-12 c = sym (from-30 (c .before .before .before .before .before .before .before .before .args .opcode) (omega arith) (omega arith))
+returns-12 c = sym (before-30 (c .before .before .before .before .before .before .before .before .args .opcode) (omega arith) (omega arith))
 
 returns-13 : tie.Need-returns-13
-unfolding rowOf
-returns-13 c = sym (ap rowOf (c .if9 .taken))
+returns-13 c = sym (from-30 (c .before .before .before .before .before .before .before .before .before .args .opcode) (omega arith) (omega arith))
 
 returns-14 : tie.Need-returns-14
-returns-14 c = sym (after-32 (c .before .before .before .before .before .before .before .before .before .args .opcode) (omega arith))
+unfolding rowOf
+returns-14 c = sym (ap rowOf (c .if10 .taken))
+
+returns-15 : tie.Need-returns-15
+returns-15 c = sym (after-32 (c .before .before .before .before .before .before .before .before .before .before .args .opcode) (omega arith))
 
 pub row-of-spec : {M : Type 1} → statement M
 row-of-spec =
@@ -72,4 +76,5 @@ row-of-spec =
     returns-11
     returns-12
     returns-13
-    returns-14)
+    returns-14
+    returns-15)
