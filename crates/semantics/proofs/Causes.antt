@@ -7,7 +7,7 @@ use Prim.Native.Nat.{ℕ, _^_, _≤_, _<_}
 use native.Mathlib.Omega.{arith}
 use lib.Dec.{eqb, leb, ltb}
 use lib.IntN.{natAbs, _+ℤ_, _-ℤ_}
-use borrow.Author.Tests.{ne-eqb, ltb-true}
+use borrow.Author.Tests.{ltb-true}
 use Rattle.float_format.specs.Format.{binary64, isInfinite}
 use Rattle.float_format.specs.Rounding.{lroundRefusal}
 use Rattle.recipe.specs.declared.Step.{Step}
@@ -16,7 +16,7 @@ use Rattle.semantics.specs.Range.{Range, Ranged, ranged, low, high, leas
 use Rattle.semantics.specs.Range as range
 use Rattle.semantics.specs.Cause.{Named, ofA, ofB, Cause, cause, Found, none, found, overflows, firstOf, causesOf, causeOf}
 use Rattle.semantics.proofs.Sound.Kept.{both}
-use Rattle.semantics.proofs.Rules.{Unlisted, range-unlisted, by-opcode}
+use Rattle.semantics.proofs.Rules.{Unlisted, absent, range-unlisted, by-opcode}
 
 -- ---- the first of a list that holds
 
@@ -92,14 +92,8 @@ four false false false false r = refl
 pub none-unlisted : (k : ℕ) (a b : Range) → Unlisted k → causesOf k a b ≡ []
 unfolding causesOf
 none-unlisted k a b h =
-    simp (
-      ne-eqb k 24 (h .0 .0 .0 .0 .0 .0 .0 .1),
-      ne-eqb k 34 (h .0 .0 .0 .0 .1),
-      ne-eqb k 35 (h .0 .0 .0 .1),
-      ne-eqb k 48 (h .0 .0 .1),
-      ne-eqb k 49 (h .0 .1),
-      ne-eqb k 50 (h .1),
-    )
+    let g = absent k h in
+    simp (g .no-18, g .no-22, g .no-23, g .no-24, g .no-30, g .no-31, g .no-32)
 
 module _ (p q : ℕ) (a b : Range) where
   abbrev Exact : ℕ → Type 0
@@ -117,6 +111,7 @@ module _ (p q : ℕ) (a b : Range) where
       refl refl
       (three (holdsZero b) (isInfinite binary64 (low a)) (isInfinite binary64 (high a)) _)
       (four (isInfinite binary64 (low a)) (isInfinite binary64 (high a)) (overflows (low a) (lowPower a b)) (overflows (high a) (highPower a b)) _)
+      (three (holdsZero b) (isInfinite binary64 (low a)) (isInfinite binary64 (high a)) _)
       (two (fitsWord (least a +ℤ least b)) (fitsWord (most a +ℤ most b)) 6 7 21 _)
       (two (fitsWord (least a -ℤ most b)) (fitsWord (most a -ℤ least b)) 6 7 21 _)
       (two (leb (natAbs (least a)) (2 ^ 53)) (leb (natAbs (most a)) (2 ^ 53)) 12 13 22 _)
@@ -145,14 +140,18 @@ range-numbered t a b =
     (shown _) (shown _) (shown _) (shown _) (shown _) (shown _) (shown _) (shown _) (shown _) (shown _) (shown _) (shown _)
     (either (eqb (lroundRefusal binary64 (low a)) 0 && eqb (lroundRefusal binary64 (high a)) 0) _ _ (shown _) overflow)
     (shown _) (shown _)
-    (either (infiniteEnd a || holdsZero b) _ _ (turned 20 (omega arith) (omega arith)) (shown _))
+    (either (infiniteEnd a || holdsZero b) _ _ domain (shown _))
     (either (infiniteEnd a || overflows (low a) (lowPower a b) || overflows (high a) (highPower a b)) _ _ overflow (shown _))
+    (either (infiniteEnd a || holdsZero b) _ _ domain (shown _))
     (either (fitsWord (least a +ℤ least b) && fitsWord (most a +ℤ most b)) _ _ (shown _) overflow)
     (either (fitsWord (least a -ℤ most b) && fitsWord (most a -ℤ least b)) _ _ (shown _) overflow)
     (either (leb (natAbs (least a)) (2 ^ 53) && leb (natAbs (most a)) (2 ^ 53)) _ _ (shown _) (turned 22 (omega arith) (omega arith)))
     (λ k h. rw (sym (range-unlisted k (t .p) (t .q) a b h)) (shown _))
     (t .opcode)
   where
+    domain : RangeNumbered (range.refused 20)
+    domain = turned 20 (omega arith) (omega arith)
+
     overflow : RangeNumbered (range.refused 21)
     overflow = turned 21 (omega arith) (omega arith)
 
@@ -165,7 +164,7 @@ allCoded (c ∷ l) = ltb 0 (c .code) && allCoded l
 coded : (k : ℕ) (a b : Range) → allCoded (causesOf k a b) ≡ true
 unfolding causesOf allCoded
 coded k a b =
-    by-opcode (λ (k : ℕ). allCoded (causesOf k a b) ≡ true) refl refl refl refl refl refl refl refl refl refl refl refl refl refl refl refl refl refl refl refl
+    by-opcode (λ (k : ℕ). allCoded (causesOf k a b) ≡ true) refl refl refl refl refl refl refl refl refl refl refl refl refl refl refl refl refl refl refl refl refl
     (λ k h. rw (none-unlisted k a b h)) k
 
 coded-at : (before : List Cause) (c : Cause) (after : List Cause) → allCoded (before ++ (c ∷ after)) ≡ true → 0 < c .code
@@ -215,6 +214,11 @@ module _ (a b : Range) where
   pub remainder-codes : (codes (causesOf 0x22 a b) ≡ 1 ∷ 2 ∷ 3 ∷ []) × (operands (causesOf 0x22 a b) ≡ ofB ∷ ofA ∷ ofA ∷ [])
   unfolding causesOf
   remainder-codes = (refl, refl)
+
+  -- 24 has the causes of 22
+  pub nearest-codes : causesOf 0x24 a b ≡ causesOf 0x22 a b
+  unfolding causesOf
+  nearest-codes = refl
 
   pub lround-codes : (codes (causesOf 0x18 a b) ≡ 4 ∷ 5 ∷ []) × (operands (causesOf 0x18 a b) ≡ ofA ∷ ofA ∷ [])
   unfolding causesOf

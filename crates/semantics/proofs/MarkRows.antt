@@ -32,6 +32,11 @@ module _ (a b : Bool) where
   unfolding markRule
   ldexp-unmarked l h = refl
 
+  -- 24: remainder has it when both operands do (W-204).
+  pub remainder-marked : (l h : ℕ) → markRule 0x24 (doubles l h) a b ≡ (a && b)
+  unfolding markRule
+  remainder-marked l h = refl
+
   -- 01: an input with P below Q does not have it.
   pub input-range-unmarked : (p q : ℕ) → below binary64 p q ≡ true → markRule 0x01 (doubles p q) a b ≡ false
   unfolding markRule

@@ -60,10 +60,11 @@ step-numbered t w a b =
     (either (eqb (t .opcode) 0x21) _ _ (value _)
     (either (eqb (t .opcode) 0x22) _ _ (either (eqb (fmodRefusal binary64 (asDouble a) (asDouble b)) 0) _ _ (value _) domain)
     (either (eqb (t .opcode) 0x23) _ _ (either (eqb (ldexpRefusal binary64 (asDouble a) (asWhole b)) 0) _ _ (value _) range)
+    (either (eqb (t .opcode) 0x24) _ _ (either (eqb (fmodRefusal binary64 (asDouble a) (asDouble b)) 0) _ _ (value _) domain)
     (either (eqb (t .opcode) 0x30) _ _ (either (fitsWord (asWhole a +ℤ asWhole b)) _ _ (value _) range)
     (either (eqb (t .opcode) 0x31) _ _ (either (fitsWord (asWhole a -ℤ asWhole b)) _ _ (value _) range)
     (either (eqb (t .opcode) 0x32) _ _ (either (leb (natAbs (asWhole a)) (2 ^ 53)) _ _ (value _) size)
-    (value _))))))))))))))))))))
+    (value _)))))))))))))))))))))
 
 -- ---- the frame
 

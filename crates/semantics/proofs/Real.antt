@@ -31,6 +31,7 @@ use Rattle.semantics.proofs.Rules.{Unlisted, unlisted, by-opcode}
 use Rattle.semantics.proofs.Sound.Kept.{no-or, valid, rest-of, number-of, zero-number}
 use Rattle.semantics.proofs.Sound.Floats.{integral-number, negated-number, fmin-number, fmax-number, absolute-number}
 use Rattle.semantics.proofs.Sound.Fractions.{fmod-number}
+use Rattle.semantics.proofs.Sound.Nearest.{remainder-number}
 use Rattle.semantics.proofs.Sound.Scaled.{ldexp-number}
 use Rattle.semantics.proofs.Sound.Doubles.{whole-number}
 use Rattle.semantics.proofs.Sound.Recipes.{Declared, declared, following, frame-step, frame-read}
@@ -93,6 +94,7 @@ module _ (t : Step) (w : ℕ) (a b : Datum) (na : Number a) (nb : Number b) wher
       (λ e g. fmax-number (asDouble a) (asDouble b) x y)
       (λ e g. either (eqb (fmodRefusal binary64 (asDouble a) (asDouble b)) 0) _ 20 (λ q. fmod-number (asDouble a) (asDouble b) x y (eqb-true (fmodRefusal binary64 (asDouble a) (asDouble b)) 0 q)))
       (λ e g. either (eqb (ldexpRefusal binary64 (asDouble a) (asWhole b)) 0) _ 21 (λ q. ldexp-number (asDouble a) (asWhole b) x))
+      (λ e g. either (eqb (fmodRefusal binary64 (asDouble a) (asDouble b)) 0) _ 20 (λ q. remainder-number (asDouble a) (asDouble b) x y (eqb-true (fmodRefusal binary64 (asDouble a) (asDouble b)) 0 q)))
       (λ e g. either (fitsWord (asWhole a +ℤ asWhole b)) _ 21 (λ q. tt))
       (λ e g. either (fitsWord (asWhole a -ℤ asWhole b)) _ 21 (λ q. tt))
       (λ e g. either (leb (natAbs (asWhole a)) (2 ^ 53)) _ 22 (λ q. whole-number (asWhole a) (leb-true (natAbs (asWhole a)) (2 ^ 53) q)))

@@ -6,6 +6,7 @@ pub mod Fractions
 pub mod Inputs
 pub mod Lround
 pub mod Scaled
+pub mod Nearest
 pub mod Doubles
 pub mod Steps
 pub mod Kinds

@@ -44,6 +44,20 @@ pub dividend-high : Told 0x22 (doubles 0x3ff0_0000_0000_0000 0x7ff0_0000_0000_00
 unfolding causeOf causesOf firstOf above under magnitude isInfinite
 dividend-high = (refl, refl)
 
+-- ---- 24, which shares them
+
+pub nearest-zero-divisor : Told 0x24 (doubles 0xfff0_0000_0000_0000 0x7ff0_0000_0000_0000) (doubles 0xbff0_0000_0000_0000 0x8000_0000_0000_0000) 4 1
+unfolding causeOf causesOf firstOf above under magnitude isInfinite
+nearest-zero-divisor = (refl, refl)
+
+pub nearest-dividend-low : Told 0x24 (doubles 0xfff0_0000_0000_0000 0x7ff0_0000_0000_0000) (doubles 0x3ff0_0000_0000_0000 0x4000_0000_0000_0000) 3 2
+unfolding causeOf causesOf firstOf above under magnitude isInfinite
+nearest-dividend-low = (refl, refl)
+
+pub nearest-dividend-high : Told 0x24 (doubles 0x3ff0_0000_0000_0000 0x7ff0_0000_0000_0000) (doubles 0x3ff0_0000_0000_0000 0x7ff0_0000_0000_0000) 3 3
+unfolding causeOf causesOf firstOf above under magnitude isInfinite
+nearest-dividend-high = (refl, refl)
+
 -- ---- 18: 2^63 is the first that does not fit, and -2^63 the last that does
 
 pub lround-low : Told 0x18 (doubles 0xc3e0_0000_0000_0001 0x3ff0_0000_0000_0000) (doubles 0 0) 3 4

@@ -63,6 +63,7 @@ module _ (p w x y : ℕ) (a b : Datum) where
       (λ e. refl)
       (λ e. either Double (eqb (fmodRefusal binary64 x y) 0) _ 20 refl)
       (λ e. either Double (eqb (ldexpRefusal binary64 x (asWhole b)) 0) _ 21 refl)
+      (λ e. either Double (eqb (fmodRefusal binary64 x y) 0) _ 20 refl)
       (λ e. either Whole (fitsWord (asWhole a +ℤ asWhole b)) _ 21 refl)
       (λ e. either Whole (fitsWord (asWhole a -ℤ asWhole b)) _ 21 refl)
       (λ e. either Double (leb (natAbs (asWhole a)) (2 ^ 53)) _ 22 refl)

@@ -1,5 +1,5 @@
--- Document 01's recipe with its whole sheet and its two frames, what demand 3 comes to of it, and the range rules at their corners, by the
--- definitions: claims that antt computes. Assumes nothing.
+-- Document 01's recipe with its whole sheet and its two frames, what demand 3 comes to of it, the range rules at their corners, and values of
+-- remainder, by the definitions: claims that antt computes. Assumes nothing.
 use mathlib.Core.Path.{_≡_, refl, _∙_}
 use mathlib.Core.List.{List, [], _∷_, _++_, map}
 use Prim.Native.Nat.{ℕ}
@@ -12,12 +12,15 @@ use Rattle.float_format.specs.Number.{magnitude, encode, above, under}
 use Rattle.float_format.specs.Rounding.{parts, wholePart, integral, lroundRefusal, lroundValue, nearest, rounded}
 use Rattle.ordering.specs.Ordering.{fmin, fmax}
 use Rattle.scaling.specs.Scaling.{scaled, ldexp, ldexpRefusal}
+use Rattle.remainder.specs.Remainder.{fmodRefusal}
+use Rattle.nearest_remainder.specs.Nearest.{remainder}
 use Rattle.hex.specs.Hex.{digits, fieldOf, digitOf}
 use Rattle.recipe.specs.declared.Step.{Step}
 use Rattle.recipe.specs.Table.{rowOf}
 use Rattle.recipe.specs.Text.{short, step, steps, readText, readFrom, onNext, nextOf, judged, stepRefusal, inputsIn, lineAt, fromFields}
 use Rattle.recipe.proofs.Examples.{bytes, lines}
-use Rattle.semantics.specs.Value.{Datum, double, whole, ruleOf, stepValue}
+use Rattle.semantics.specs.Value.{Datum, double, whole, Outcome, done, ruleOf, stepValue}
+use Rattle.semantics.specs.Value as value
 use Rattle.semantics.specs.Range.{Range, doubles, wholes, Ranged, ranged, refused, rangeRule, stepRange}
 use Rattle.semantics.specs.Frame.{onField, onWords, wordsFrom, readFrame}
 use Rattle.semantics.specs.Frame as frame
@@ -199,6 +202,17 @@ corners =
     ∷ (of-two 0x23 (doubles p1 p2) (wholes (negsuc 0) (pos 0)) gives ranged (doubles 0x3fe0_0000_0000_0000 p2))
     ∷ (of-two 0x23 (doubles p1 p1) (wholes (pos 0) (pos 1024)) gives refused 21)
     ∷ (of-two 0x23 (doubles p1 pInf) (wholes (negsuc 0) (pos 0)) gives refused 21)
+    -- remainder: -m to m, m being the divisor's greatest magnitude, or the dividend's; an infinite divisor; of zeros -0 to +0; an infinite end of the
+    -- dividend; a divisor's range that goes across zero, or ends at one
+    ∷ (of-two 0x24 (doubles 0xc059_0000_0000_0000 0x4059_0000_0000_0000) (doubles m2 m1) gives ranged (doubles m2 p2))
+    ∷ (of-two 0x24 (doubles 0 p1) (doubles p1 p2) gives ranged (doubles m1 p1))
+    ∷ (of-two 0x24 (doubles m2 p1) (doubles p1 pInf) gives ranged (doubles m2 p2))
+    ∷ (of-two 0x24 (doubles 0 m0) (doubles p1 p2) gives ranged (doubles m0 0))
+    ∷ (of-two 0x24 (doubles mInf p1) (doubles p1 p2) gives refused 20)
+    ∷ (of-two 0x24 (doubles p1 pInf) (doubles p1 p2) gives refused 20)
+    ∷ (of-two 0x24 (doubles p1 p2) (doubles m1 p1) gives refused 20)
+    ∷ (of-two 0x24 (doubles p1 p2) (doubles 0 p1) gives refused 20)
+    ∷ (of-two 0x24 (doubles p1 p2) (doubles m1 m0) gives refused 20)
     -- whole sums and differences; 2^53 and one past it as doubles
     ∷ (of-two 0x30 (wholes (negsuc 2) (pos 5)) (wholes (pos 1) (pos 2)) gives ranged (wholes (negsuc 1) (pos 7)))
     ∷ (of-two 0x30 (wholes (pos 0) (pos 0x7fff_ffff_ffff_ffff)) (wholes (pos 0) (pos 1)) gives refused 21)
@@ -210,3 +224,29 @@ corners =
 pub range-corners : map (λ (c : Case). c .given) corners ≡ map (λ (c : Case). c .stated) corners
 unfolding corners rangeRule integral parts wholePart lroundRefusal lroundValue fmin fmax nearest rounded scaled ldexp ldexpRefusal isNan isInfinite isZero quieted absolute negated magnitude encode above under size span climb
 range-corners = refl
+
+-- ---- remainder's values, which are not fmod's
+
+abbrev remainderOf : ℕ → ℕ → Outcome
+remainderOf x y = ruleOf 0x24 0 0 x y (pos 0) (pos 0)
+
+-- 5 by 3: 6 is nearer than 3; 1 by 2 and 3 by 2: of halves the even multiple is taken; -6 by 3: a zero has the dividend's sign; 1 by infinity; an
+-- infinite dividend and a zero divisor are refused
+pub remainder-values : remainderOf 0x4014_0000_0000_0000 0x4008_0000_0000_0000
+    ∷ remainderOf p1 p2
+    ∷ remainderOf 0x4008_0000_0000_0000 p2
+    ∷ remainderOf 0xc018_0000_0000_0000 0x4008_0000_0000_0000
+    ∷ remainderOf p1 mInf
+    ∷ remainderOf mInf p1
+    ∷ remainderOf p1 m0
+    ∷ []
+    ≡ done (double m1)
+    ∷ done (double p1)
+    ∷ done (double m1)
+    ∷ done (double m0)
+    ∷ done (double p1)
+    ∷ value.refused 20
+    ∷ value.refused 20
+    ∷ []
+unfolding ruleOf remainder fmodRefusal parts isNan isInfinite isZero quieted magnitude encode size span climb
+remainder-values = refl

@@ -1,6 +1,6 @@
 -- Why a step is turned down: for each opcode the facts that the sheet refuses it for, in the order of their codes (document 02, W-205).
 -- Definitions only; assumes nothing.
-use mathlib.Core.Bool.{Bool, true, false, not, cond}
+use mathlib.Core.Bool.{Bool, true, false, not, _||_, cond}
 use mathlib.Core.List.{List, [], _∷_}
 use Prim.Native.Nat.{ℕ, _^_}
 use lib.Dec.{eqb, leb}
@@ -44,7 +44,7 @@ tooBig z = not (leb (natAbs z) (2 ^ 53))
 
 -- ---- by the opcode, a and b being the operands' ranges
 
--- 22
+-- 22; step 24 shares them
 abbrev pub remainderCauses : Range → Range → List Cause
 remainderCauses a b =
     cause 0x01 ofB 20 (holdsZero b)
@@ -77,7 +77,7 @@ doubleCauses a = cause 0x0c ofA 22 (tooBig (least a)) ∷ cause 0x0d ofA 22 (too
 unfoldable pub causesOf : ℕ → Range → Range → List Cause
 causesOf opcode a b =
     cond (eqb opcode 0x18) (lroundCauses a)
-    (cond (eqb opcode 0x22) (remainderCauses a b)
+    (cond (eqb opcode 0x22 || eqb opcode 0x24) (remainderCauses a b)
     (cond (eqb opcode 0x23) (ldexpCauses a b)
     (cond (eqb opcode 0x30) (wholeCauses (least a +ℤ least b) (most a +ℤ most b))
     (cond (eqb opcode 0x31) (wholeCauses (least a -ℤ most b) (most a -ℤ least b))

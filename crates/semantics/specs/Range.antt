@@ -1,5 +1,5 @@
 -- A step's range from its operands' ranges, and refusals 20 to 22 as stated for the sheet (document 01, "Recipe text": range rules, and
--- "Turning text down"). Definitions only; assumes nothing.
+-- "Turning text down"; step 24: document 02, W-204). Definitions only; assumes nothing.
 use mathlib.Core.Bool.{Bool, not, _&&_, _||_, cond}
 use Prim.Native.Nat.{ℕ, _^_}
 use lib.Dec.{eqb, leb}
@@ -110,17 +110,18 @@ lroundRange a =
     cond (eqb (lroundRefusal binary64 (low a)) 0 && eqb (lroundRefusal binary64 (high a)) 0)
     (ranged (wholes (lroundValue binary64 (low a)) (lroundValue binary64 (high a)))) (refused 21)
 
--- 22: refused for an infinite end of a, or where b holds zero
+-- 22, 24: refused for an infinite end of a, or where b holds zero
 abbrev pub holdsZero : Range → Bool
 holdsZero b = not (isPositive (low b)) && not (isNegative (high b))
 
 abbrev pub infiniteEnd : Range → Bool
 infiniteEnd a = isInfinite binary64 (low a) || isInfinite binary64 (high a)
 
+-- the greatest magnitude among the ends
 abbrev pub greatest : Range → ℕ
 greatest b = fmax binary64 (absolute binary64 (low b)) (absolute binary64 (high b))
 
--- m is the divisor's greatest magnitude
+-- 22: m is the divisor's greatest magnitude
 abbrev pub fmodLow : ℕ → ℕ → ℕ
 fmodLow x m = cond (isNegative x) (negated binary64 (fmin binary64 (absolute binary64 x) m)) 0
 
@@ -141,6 +142,13 @@ abbrev pub ldexpRange : Range → Range → Ranged
 ldexpRange a b =
     cond (infiniteEnd a || not (eqb (ldexpRefusal binary64 (low a) (lowPower a b)) 0) || not (eqb (ldexpRefusal binary64 (high a) (highPower a b)) 0)) (refused 21)
     (ranged (doubles (ldexp binary64 (low a) (lowPower a b)) (ldexp binary64 (high a) (highPower a b))))
+
+-- 24: -m to m, m being the smaller, by fmin, of the greatest magnitudes among the ends of a and of b
+abbrev pub remainderMost : Range → Range → ℕ
+remainderMost a b = fmin binary64 (greatest a) (greatest b)
+
+abbrev pub remainderRange : Range → Range → Ranged
+remainderRange a b = cond (infiniteEnd a || holdsZero b) (refused 20) (ranged (doubles (negated binary64 (remainderMost a b)) (remainderMost a b)))
 
 -- 30, 31: refused where an end has not 64 bits
 abbrev pub wholeRange : ℤ → ℤ → Ranged
@@ -171,10 +179,11 @@ rangeRule opcode p q a b =
     (cond (eqb opcode 0x21) (ranged (doubles (fmax binary64 (low a) (low b)) (fmax binary64 (high a) (high b))))
     (cond (eqb opcode 0x22) (fmodRange a b)
     (cond (eqb opcode 0x23) (ldexpRange a b)
+    (cond (eqb opcode 0x24) (remainderRange a b)
     (cond (eqb opcode 0x30) (wholeRange (least a +ℤ least b) (most a +ℤ most b))
     (cond (eqb opcode 0x31) (wholeRange (least a -ℤ most b) (most a -ℤ least b))
     (cond (eqb opcode 0x32) (doubleRange a)
-    (ranged (wholes (pos 0) (pos 0))))))))))))))))))))))
+    (ranged (wholes (pos 0) (pos 0)))))))))))))))))))))))
 
 -- a step t's range, a and b being its operands' ranges
 unfoldable pub stepRange : Step → Range → Range → Ranged

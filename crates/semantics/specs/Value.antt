@@ -1,5 +1,5 @@
--- A step's value from its operands' values, and refusals 20 to 22 (document 01, "Recipe text" and "The terms of demand 3"). Definitions
--- only; assumes nothing.
+-- A step's value from its operands' values, and refusals 20 to 22 (document 01, "Recipe text" and "The terms of demand 3"; step 24: document 02,
+-- W-204). Definitions only; assumes nothing.
 use mathlib.Core.Bool.{Bool, not, cond}
 use Prim.Native.Nat.{ℕ, _*_, _^_}
 use lib.Dec.{ltb, leb, eqb}
@@ -14,6 +14,7 @@ use Rattle.float_format.specs.declared.Direction.the-variants.{Down, Up, Toward
 use Rattle.splitting.specs.Splitting.{modfFraction}
 use Rattle.ordering.specs.Ordering.{fmin, fmax}
 use Rattle.remainder.specs.Remainder.{fmod, fmodRefusal}
+use Rattle.nearest_remainder.specs.Nearest.{remainder}
 use Rattle.scaling.specs.Scaling.{ldexp, ldexpRefusal}
 use Rattle.recipe.specs.declared.Kind.{Kind}
 use Rattle.recipe.specs.declared.Kind.the-variants.{Double, Whole}
@@ -81,10 +82,11 @@ ruleOf opcode p w x y m n =
     (cond (eqb opcode 0x21) (done (double (fmax binary64 x y)))
     (cond (eqb opcode 0x22) (cond (eqb (fmodRefusal binary64 x y) 0) (done (double (fmod binary64 x y))) (refused 20))
     (cond (eqb opcode 0x23) (cond (eqb (ldexpRefusal binary64 x n) 0) (done (double (ldexp binary64 x n))) (refused 21))
+    (cond (eqb opcode 0x24) (cond (eqb (fmodRefusal binary64 x y) 0) (done (double (remainder binary64 x y))) (refused 20))
     (cond (eqb opcode 0x30) (cond (fitsWord (m +ℤ n)) (done (whole (m +ℤ n))) (refused 21))
     (cond (eqb opcode 0x31) (cond (fitsWord (m -ℤ n)) (done (whole (m -ℤ n))) (refused 21))
     (cond (eqb opcode 0x32) (cond (leb (natAbs m) (2 ^ 53)) (done (double (ofWhole m))) (refused 22))
-    (done (whole (pos 0))))))))))))))))))))))
+    (done (whole (pos 0)))))))))))))))))))))))
 
 -- a step t's value, a and b being its operands' values
 unfoldable pub stepValue : Step → ℕ → Datum → Datum → Outcome

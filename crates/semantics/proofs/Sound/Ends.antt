@@ -22,7 +22,7 @@ use Rattle.recipe.specs.Table.{rowOf}
 use Rattle.recipe.specs.Text.{noStep, mostSteps, first, second, badRange, doubleAbove}
 use Rattle.recipe.specs.Answer.{Formed}
 use Rattle.semantics.specs.Value.{ofWhole}
-use Rattle.semantics.specs.Range.{Range, doubles, wholes, low, high, least, most, isNegative, isPositive, infiniteEnd, holdsZero, bothEnds, absoluteRange, greatest, fmodLow, fmodHigh, fmodRange, doubleRange, ranged, refused, rangeRule, stepRange}
+use Rattle.semantics.specs.Range.{Range, doubles, wholes, low, high, least, most, isNegative, isPositive, infiniteEnd, holdsZero, bothEnds, absoluteRange, greatest, fmodLow, fmodHigh, remainderMost, doubleRange, ranged, refused, rangeRule, stepRange}
 use Rattle.semantics.specs.Sheet.{passed, noRange, sheetFrom}
 use Rattle.semantics.specs.Mark.{noMark, markRule, marksOf}
 use Rattle.semantics.specs.Promise.{Proper}
@@ -61,7 +61,7 @@ module _ (a : Range) (w : WholeEnds a) where
   high-absolute : Whole (absolute binary64 (high a))
   high-absolute = integer-absolute binary64 (high a) ∙ w .high-end
 
-  -- the greatest magnitude, in the rules of fabs and fmod
+  -- the greatest magnitude, in the rules of fabs, fmod and remainder
   greatest-whole : Whole (greatest a)
   greatest-whole = fmax-integral binary64 (absolute binary64 (low a)) (absolute binary64 (high a)) low-absolute high-absolute
 
@@ -92,6 +92,12 @@ module _ (a b : Range) (w : WholeEnds a) (v : WholeEnds b) where
       whole-ends (fmodLow (low a) m) (fmodHigh (high a) m)
       (either (isNegative (low a)) (negated binary64 i) 0 (integer-negated binary64 i ∙ fmin-integral binary64 (absolute binary64 (low a)) m (low-absolute a w) g) zero-whole)
       (either (isPositive (high a)) (fmin binary64 (high a) m) 0 (fmin-integral binary64 (high a) m (w .high-end) g) zero-whole)
+
+  remainder-ends : WholeEnds (doubles (negated binary64 (remainderMost a b)) (remainderMost a b))
+  remainder-ends =
+      let m : ℕ = remainderMost a b in
+      let g : Whole (remainderMost a b) = fmin-integral binary64 (greatest a) (greatest b) (greatest-whole a w) (greatest-whole b v) in
+      whole-ends (negated binary64 m) m (integer-negated binary64 m ∙ g) g
 
 -- ---- one step, of a range of doubles
 
@@ -140,12 +146,14 @@ module _ (t : Step) (a b : Range) (l h : ℕ) (ma mb : Bool) (nl : isNan binary6
   two : (f : WholeEnds a → WholeEnds b → WholeEnds (doubles l h)) → (ma && mb) ≡ true → WholeEnds (doubles l h)
   two f m = let p : (ma ≡ true) × (mb ≡ true) = both ma mb m in f (wa (p .0)) (wb (p .1))
 
-  remainder : fmodRange a b ≡ ranged (doubles l h) → (ma && mb) ≡ true → WholeEnds (doubles l h)
-  remainder e m = pick (infiniteEnd a || holdsZero b) e
+  -- 22, 24: of a range r that may be refused
+  divided : (r : Range) → (WholeEnds a → WholeEnds b → WholeEnds r) → cond (infiniteEnd a || holdsZero b) (refused 20) (ranged r) ≡ ranged (doubles l h)
+      → (ma && mb) ≡ true → WholeEnds (doubles l h)
+  divided r f e m = pick (infiniteEnd a || holdsZero b) e
     where
-      pick : (s : Bool) → cond s (refused 20) (ranged (doubles (fmodLow (low a) (greatest b)) (fmodHigh (high a) (greatest b)))) ≡ ranged (doubles l h) → WholeEnds (doubles l h)
+      pick : (s : Bool) → cond s (refused 20) (ranged r) ≡ ranged (doubles l h) → WholeEnds (doubles l h)
       pick true g = never (cc)
-      pick false g = two (λ w v. these (doubles (fmodLow (low a) (greatest b)) (fmodHigh (high a) (greatest b))) (fmod-ends a b w v) g) m
+      pick false g = two (λ w v. these r (f w v) g) m
 
   as-double : doubleRange a ≡ ranged (doubles l h) → WholeEnds (doubles l h)
   as-double e = pick (leb (natAbs (least a)) (2 ^ 53) && leb (natAbs (most a)) (2 ^ 53)) refl e
@@ -178,8 +186,9 @@ module _ (t : Step) (a b : Range) (l h : ℕ) (ma mb : Bool) (nl : isNan binary6
       (λ d e m. never (sym m))
       (λ d e m. two (λ w v. these (doubles (fmin binary64 (low a) (low b)) (fmin binary64 (high a) (high b))) (chosen-ends a b w v (fmin binary64) (fmin-integral binary64)) e) m)
       (λ d e m. two (λ w v. these (doubles (fmax binary64 (low a) (low b)) (fmax binary64 (high a) (high b))) (chosen-ends a b w v (fmax binary64) (fmax-integral binary64)) e) m)
-      (λ d e m. remainder e m)
+      (λ d e m. divided (doubles (fmodLow (low a) (greatest b)) (fmodHigh (high a) (greatest b))) (fmod-ends a b) e m)
       (λ d e m. never (sym m ∙ ldexp-unmarked ma mb l h))
+      (λ d e m. divided (doubles (negated binary64 (remainderMost a b)) (remainderMost a b)) (remainder-ends a b) e m)
       (λ d e m. never (sym m))
       (λ d e m. never (sym m))
       (λ d e m. as-double e)

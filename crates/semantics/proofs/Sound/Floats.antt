@@ -167,7 +167,7 @@ module _ {l h x : ℕ} (b : Between l h x) where
         upto = omega (arith, zero-sides, g, one-side l, one-side x, one-side h, b .from, b .upto, absolute-sides l, absolute-sides x);
       }
 
--- the greatest magnitude of a range, as fmod's rule has it too
+-- the greatest magnitude of a range, as the rules of fmod and remainder have it too
 module _ {l h x : ℕ} (b : Between l h x) where
   abbrev most : ℕ
   most = fmax binary64 (absolute binary64 l) (absolute binary64 h)

@@ -1,5 +1,5 @@
 -- Range rules of answers that are cut from x: modf's fraction and fmod. Each answer has x's sign and no larger magnitude, and is below
--- one, or below y. Assumes nothing.
+-- one, or below y. Before fmod, what a rule that is refused on its terms has to show. Assumes nothing.
 use mathlib.Core.Path.{_≡_, refl, sym, ap, _∙_}
 use mathlib.Core.Bool.{Bool, true, false, not, _&&_, _||_, cond}
 use mathlib.Core.Logic.{_⊎_, inl, inr, ⊎-elim}
@@ -12,7 +12,7 @@ use Rattle.float_format.specs.Format.{binary64, infinity, negative, unsigned, i
 use Rattle.float_format.specs.Number.{magnitude, one, above, under, AtMost, below, unitsOf}
 use Rattle.float_format.proofs.Units.{lt-or-ge, magnitude-at, magnitude-mono-le}
 use Rattle.float_format.proofs.Patterns.{infinite-is, unsigned-signed}
-use Rattle.float_format.proofs.Order.{at-most-refl, magnitude-zero, above-at, under-at, above-negated, under-negated}
+use Rattle.float_format.proofs.Order.{magnitude-zero, above-at, under-at, above-negated, under-negated}
 use Rattle.float_format.proofs.Laws.{one-pos}
 use Rattle.ordering.specs.Ordering.{fmin, fmax}
 use Rattle.ordering.proofs.MinMax.{fmin-first}
@@ -24,9 +24,10 @@ use Rattle.remainder.specs.Remainder.{fmod, fmodRefusal}
 use Rattle.remainder.proofs.Laws.{Operands, fmod-finite, fmod-sign, fmod-below, fmod-at-most, fmod-infinity, fmod-refuses}
 use Rattle.recipe.proofs.Counts.{positive}
 use Rattle.semantics.specs.Value.{done, refused, double}
-use Rattle.semantics.specs.Range.{doubles, ranged, isNegative, isPositive, minusOne, plusOne, underOne, overMinusOne, fractionRange, greatest, fmodRange}
+use Rattle.semantics.specs.Range.{doubles, ranged, isNegative, isPositive, minusOne, plusOne, underOne, overMinusOne, fractionRange, holdsZero, infiniteEnd, greatest, fmodLow, fmodHigh, fmodRange}
 use Rattle.semantics.specs.Range as range
 use Rattle.semantics.proofs.Sound.Kept.{never, no-or, Held, Kept, Between, valid, rest-of, number-of, zero-number, held-double}
+use Rattle.semantics.proofs.Sound.Inputs.{double-constant}
 use Rattle.semantics.proofs.Sound.Floats.{one-side, sides-units, zero-sides, between-finite, most-number, most-from, fmin-number, negated-number, absolute-sides, absolute-number}
 
 -- ---- an answer r of x's sign, of a magnitude at most x's
@@ -165,7 +166,7 @@ module _ {l h x : ℕ} (b : Between l h x) where
       (low-below (below binary64 minusOne l) .1)
       (high-above (below binary64 h plusOne) .1))
 
--- ---- 22: fmod
+-- ---- 22, 24: where x has no remainder by y
 
 -- the tests of the rule
 no-holds : (s t : Bool) → (not s && not t) ≡ false → (s ≡ true) ⊎ (t ≡ true)
@@ -176,43 +177,97 @@ no-holds false false e = never e
 pub finite-end : (x : ℕ) → isNan binary64 x ≡ false → isInfinite binary64 x ≡ false → unsigned binary64 x < infinity binary64
 finite-end x n e = ⊎-elim (λ g. absurd (eqb-false (unsigned binary64 x) (infinity binary64) (sym (infinite-is binary64 x) ∙ e) g)) (λ l. l) (eq-or-lt-of-le (rest-of x n))
 
+-- x is finite and y is not zero
+pub record Divides (x y : ℕ) : Type 0 where
+  pub finite : unsigned binary64 x < infinity binary64
+  pub nonzero : 0 < unsigned binary64 y
+
+module _ (x y : ℕ) (nx : isNan binary64 x ≡ false) (ny : isNan binary64 y ≡ false) where
+  -- the run refuses nothing exactly there
+  accepted : Divides x y → fmodRefusal binary64 x y ≡ 0
+  unfolding fmodRefusal
+  accepted d =
+      let f = d .finite in
+      let s = d .nonzero in
+      simp (infinite-is binary64 x, ne-eqb (unsigned binary64 x) (infinity binary64) (omega arith), zero-is binary64 y, ne-eqb (unsigned binary64 y) 0 (omega arith), nx, ny)
+
+  pub divides : fmodRefusal binary64 x y ≡ 0 → Divides x y
+  divides e = pick (isInfinite binary64 x) (isZero binary64 y) refl refl
+    where
+      no : (isInfinite binary64 x ≡ true) ⊎ (isZero binary64 y ≡ true) → ⊥
+      no h = omega (arith, fmod-refuses binary64 x y .1 (nx, ny, h))
+
+      pick : (s t : Bool) → isInfinite binary64 x ≡ s → isZero binary64 y ≡ t → Divides x y
+      pick true t p q = absurd (no (inl p))
+      pick false true p q = absurd (no (inr q))
+      pick false false p q =
+          record { finite = finite-end x nx p; nonzero = positive (unsigned binary64 y) (eqb-false (unsigned binary64 y) 0 (sym (zero-is binary64 y) ∙ q)) }
+
 module _ {l h x l′ h′ y : ℕ} (b : Between l h x) (b′ : Between l′ h′ y) where
-  module _ (fx : unsigned binary64 x < infinity binary64) (some : 0 < unsigned binary64 y) where
-    remainder-less : (isNan binary64 (fmod binary64 x y) ≡ false) × (negative binary64 (fmod binary64 x y) ≡ negative binary64 x)
+  nonzero : (isPositive l′ ≡ true) ⊎ (isNegative h′ ≡ true) → 0 < unsigned binary64 y
+  nonzero w = ⊎-elim (λ k. k) (λ g. absurd (none (omega arith))) (lt-or-ge 0 (unsigned binary64 y))
+    where
+      none : unsigned binary64 y ≡ 0 → ⊥
+      none z =
+          let u : unitsOf binary64 y ≡ 0 = ap (magnitude 52) z ∙ magnitude-zero 52 in
+          ⊎-elim (λ e. omega (arith, sides-units y, positive-yes l′ e, b′ .from)) (λ e. omega (arith, sides-units y, negative-yes h′ e, b′ .upto)) w
+
+  -- and what the sheet's test lets through is so
+  pub let-through : (infiniteEnd (doubles l h) || holdsZero (doubles l′ h′)) ≡ false → Divides x y
+  let-through e =
+      let p : (infiniteEnd (doubles l h) ≡ false) × (holdsZero (doubles l′ h′) ≡ false) = no-or (infiniteEnd (doubles l h)) (holdsZero (doubles l′ h′)) e in
+      let q : (isInfinite binary64 l ≡ false) × (isInfinite binary64 h ≡ false) = no-or (isInfinite binary64 l) (isInfinite binary64 h) (p .0) in
+      record {
+        finite = between-finite l h x (finite-end l (b .low-number) (q .0)) (finite-end h (b .high-number) (q .1)) (b .from) (b .upto);
+        nonzero = nonzero (no-holds (isPositive l′) (isNegative h′) (p .1));
+      }
+
+  -- So a rule that refuses on these terms, and else gives ends with the answer r between them, keeps its promise.
+  pub divided-kept : (low high r : ℕ) → (Divides x y → Between low high r)
+      → Kept (cond (infiniteEnd (doubles l h) || holdsZero (doubles l′ h′)) (range.refused 20) (ranged (doubles low high)))
+      (cond (eqb (fmodRefusal binary64 x y) 0) (done (double r)) (refused 20))
+  divided-kept low high r g = pick (infiniteEnd (doubles l h) || holdsZero (doubles l′ h′)) refl
+    where
+      pick : (t : Bool) → (infiniteEnd (doubles l h) || holdsZero (doubles l′ h′)) ≡ t
+          → Kept (cond t (range.refused 20) (ranged (doubles low high))) (cond (eqb (fmodRefusal binary64 x y) 0) (done (double r)) (refused 20))
+      pick true e = tt
+      pick false e = rw (accepted x y (b .number) (b′ .number) (let-through e)) (held-double (g (let-through e)))
+
+-- ---- 22: fmod
+
+module _ {l h x l′ h′ y : ℕ} (b : Between l h x) (b′ : Between l′ h′ y) where
+  module _ (d : Divides x y) where
+    fmod-less : (isNan binary64 (fmod binary64 x y) ≡ false) × (negative binary64 (fmod binary64 x y) ≡ negative binary64 x)
         × (unitsOf binary64 (fmod binary64 x y) ≤ unitsOf binary64 x) × (unitsOf binary64 (fmod binary64 x y) ≤ unitsOf binary64 y)
-    remainder-less = ⊎-elim infinite finite (eq-or-lt-of-le (rest-of y (b′ .number)))
+    fmod-less = ⊎-elim infinite finite (eq-or-lt-of-le (rest-of y (b′ .number)))
       where
         infinite : unsigned binary64 y ≡ infinity binary64
             → (isNan binary64 (fmod binary64 x y) ≡ false) × (negative binary64 (fmod binary64 x y) ≡ negative binary64 x)
             × (unitsOf binary64 (fmod binary64 x y) ≤ unitsOf binary64 x) × (unitsOf binary64 (fmod binary64 x y) ≤ unitsOf binary64 y)
         infinite e =
-            rw (fmod-infinity binary64 x y fx e) (b .number, refl, omega arith, magnitude-mono-le 52 (omega arith))
+            let f = d .finite in
+            rw (fmod-infinity binary64 x y f e) (b .number, refl, omega arith, magnitude-mono-le 52 (omega arith))
 
         finite : unsigned binary64 y < infinity binary64
             → (isNan binary64 (fmod binary64 x y) ≡ false) × (negative binary64 (fmod binary64 x y) ≡ negative binary64 x)
             × (unitsOf binary64 (fmod binary64 x y) ≤ unitsOf binary64 x) × (unitsOf binary64 (fmod binary64 x y) ≤ unitsOf binary64 y)
         finite k =
-            let o : Operands binary64 x y = record { finite-x = fx; finite-y = k; nonzero = some } in (
+            let o : Operands binary64 x y = record { finite-x = d .finite; finite-y = k; nonzero = d .nonzero } in (
               number-of (fmod binary64 x y) (omega (arith, fmod-finite binary64 x y o)),
               fmod-sign binary64 x y o,
               fmod-at-most binary64 x y o,
               omega (arith, fmod-below binary64 x y o),
             )
 
-    remainder-cut : Cut x (fmod binary64 x y)
-    remainder-cut = cut x (fmod binary64 x y) (remainder-less .0) (remainder-less .1) (remainder-less .2)
-
-    accepted : fmodRefusal binary64 x y ≡ 0
-    unfolding fmodRefusal
-    accepted =
-        simp (infinite-is binary64 x, ne-eqb (unsigned binary64 x) (infinity binary64) (omega arith), zero-is binary64 y, ne-eqb (unsigned binary64 y) 0 (omega arith), b .number, b′ .number)
+    fmod-cut : Cut x (fmod binary64 x y)
+    fmod-cut = cut x (fmod binary64 x y) (fmod-less .0) (fmod-less .1) (fmod-less .2)
 
     -- the greatest magnitude of y's range
     abbrev M : ℕ
     M = fmax binary64 (absolute binary64 l′) (absolute binary64 h′)
 
     under-most : above binary64 (fmod binary64 x y) + under binary64 (fmod binary64 x y) + under binary64 M ≤ above binary64 M
-    under-most = omega (arith, sides-units (fmod binary64 x y), sides-units y, remainder-less .3, most-from b′)
+    under-most = omega (arith, sides-units (fmod binary64 x y), sides-units y, fmod-less .3, most-from b′)
 
     abbrev lower : ℕ
     lower = fmin binary64 (absolute binary64 l) M
@@ -223,67 +278,27 @@ module _ {l h x l′ h′ y : ℕ} (b : Between l h x) (b′ : Between l′ h′
     from-low : isNegative l ≡ true → AtMost binary64 (negated binary64 lower) (fmod binary64 x y)
     from-low e =
         ⊎-elim
-        (λ g. omega (arith, above-negated binary64 lower, under-negated binary64 lower, ap (above binary64) g, ap (under binary64) g, absolute-sides l, negative-yes l e, one-side l, one-side x, b .from, remainder-cut .less-under, remainder-cut .less-above))
+        (λ g. omega (arith, above-negated binary64 lower, under-negated binary64 lower, ap (above binary64) g, ap (under binary64) g, absolute-sides l, negative-yes l e, one-side l, one-side x, b .from, fmod-cut .less-under, fmod-cut .less-above))
         (λ g. omega (arith, above-negated binary64 lower, under-negated binary64 lower, ap (above binary64) g, ap (under binary64) g, under-most))
         (fmin-first binary64 (absolute binary64 l) M .operand (absolute-number l (b .low-number)) (most-number b′))
 
     upto-high : isPositive h ≡ true → AtMost binary64 (fmod binary64 x y) (fmin binary64 h M)
     upto-high e =
         ⊎-elim
-        (λ g. omega (arith, ap (above binary64) g, ap (under binary64) g, positive-yes h e, one-side h, one-side x, b .upto, remainder-cut .less-under, remainder-cut .less-above))
+        (λ g. omega (arith, ap (above binary64) g, ap (under binary64) g, positive-yes h e, one-side h, one-side x, b .upto, fmod-cut .less-under, fmod-cut .less-above))
         (λ g. omega (arith, ap (above binary64) g, ap (under binary64) g, under-most))
         (fmin-first binary64 h M .operand (b .high-number) (most-number b′))
 
-    remainder-between : Between (cond (isNegative l) (negated binary64 lower) 0) (cond (isPositive h) (fmin binary64 h M) 0) (fmod binary64 x y)
-    remainder-between =
-        ends b remainder-cut (negated binary64 lower) (fmin binary64 h M) (negated-number lower lower-number) (fmin-number h M (b .high-number) (most-number b′)) from-low upto-high
-
-    remainder-done : Held
-        (doubles (cond (isNegative l) (negated binary64 lower) 0) (cond (isPositive h) (fmin binary64 h M) 0))
-        (cond (eqb (fmodRefusal binary64 x y) 0) (done (double (fmod binary64 x y))) (refused 20))
-    remainder-done = rw accepted (held-double remainder-between)
-
-  nonzero : (isPositive l′ ≡ true) ⊎ (isNegative h′ ≡ true) → 0 < unsigned binary64 y
-  nonzero w = ⊎-elim (λ k. k) (λ g. absurd (none (omega arith))) (lt-or-ge 0 (unsigned binary64 y))
-    where
-      none : unsigned binary64 y ≡ 0 → ⊥
-      none z =
-          let u : unitsOf binary64 y ≡ 0 = ap (magnitude 52) z ∙ magnitude-zero 52 in
-          ⊎-elim (λ e. omega (arith, sides-units y, positive-yes l′ e, b′ .from)) (λ e. omega (arith, sides-units y, negative-yes h′ e, b′ .upto)) w
+    fmod-between : Between (cond (isNegative l) (negated binary64 lower) 0) (cond (isPositive h) (fmin binary64 h M) 0) (fmod binary64 x y)
+    fmod-between =
+        ends b fmod-cut (negated binary64 lower) (fmin binary64 h M) (negated-number lower lower-number) (fmin-number h M (b .high-number) (most-number b′)) from-low upto-high
 
   pub fmod-kept : Kept (fmodRange (doubles l h) (doubles l′ h′))
       (cond (eqb (fmodRefusal binary64 x y) 0) (done (double (fmod binary64 x y))) (refused 20))
-  fmod-kept = pick ((isInfinite binary64 l || isInfinite binary64 h) || (not (isPositive l′) && not (isNegative h′))) refl
-    where
-      pick : (t : Bool) → ((isInfinite binary64 l || isInfinite binary64 h) || (not (isPositive l′) && not (isNegative h′))) ≡ t
-          → Kept
-          (cond t (range.refused 20)
-          (ranged (doubles
-          (cond (isNegative l) (negated binary64 (fmin binary64 (absolute binary64 l) (greatest (doubles l′ h′)))) 0)
-          (cond (isPositive h) (fmin binary64 h (greatest (doubles l′ h′))) 0))))
-          (cond (eqb (fmodRefusal binary64 x y) 0) (done (double (fmod binary64 x y))) (refused 20))
-      pick true e = tt
-      pick false e =
-          let p : ((isInfinite binary64 l || isInfinite binary64 h) ≡ false) × ((not (isPositive l′) && not (isNegative h′)) ≡ false) = no-or (isInfinite binary64 l || isInfinite binary64 h) (not (isPositive l′) && not (isNegative h′)) e in
-          let q : (isInfinite binary64 l ≡ false) × (isInfinite binary64 h ≡ false) = no-or (isInfinite binary64 l) (isInfinite binary64 h) (p .0) in
-          remainder-done
-          (between-finite l h x (finite-end l (b .low-number) (q .0)) (finite-end h (b .high-number) (q .1)) (b .from) (b .upto))
-          (nonzero (no-holds (isPositive l′) (isNegative h′) (p .1)))
+  fmod-kept = divided-kept b b′ (fmodLow l (greatest (doubles l′ h′))) (fmodHigh h (greatest (doubles l′ h′))) (fmod binary64 x y) fmod-between
 
 -- ---- no NaN, of no ranges
 
-same : (x : ℕ) → isNan binary64 x ≡ false → Between x x x
-same x n = record { low-number = n; high-number = n; number = n; from = at-most-refl binary64 x; upto = at-most-refl binary64 x }
-
 -- fmod of numbers, where it is not refused, is a number
 pub fmod-number : (x y : ℕ) → isNan binary64 x ≡ false → isNan binary64 y ≡ false → fmodRefusal binary64 x y ≡ 0 → isNan binary64 (fmod binary64 x y) ≡ false
-fmod-number x y nx ny e = pick (isInfinite binary64 x) (isZero binary64 y) refl refl
-  where
-    no : (isInfinite binary64 x ≡ true) ⊎ (isZero binary64 y ≡ true) → ⊥
-    no h = omega (arith, fmod-refuses binary64 x y .1 (nx, ny, h))
-
-    pick : (s t : Bool) → isInfinite binary64 x ≡ s → isZero binary64 y ≡ t → isNan binary64 (fmod binary64 x y) ≡ false
-    pick true t p q = absurd (no (inl p))
-    pick false true p q = absurd (no (inr q))
-    pick false false p q =
-        remainder-less (same x nx) (same y ny) (finite-end x nx p) (positive (unsigned binary64 y) (eqb-false (unsigned binary64 y) 0 (sym (zero-is binary64 y) ∙ q))) .0
+fmod-number x y nx ny e = fmod-less (double-constant x nx) (double-constant y ny) (divides x y nx ny e) .0

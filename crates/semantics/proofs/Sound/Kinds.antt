@@ -6,6 +6,7 @@ use Prim.Native.Nat.{ℕ, _^_, _<_, _≤_}
 use native.Mathlib.Omega.{arith}
 use lib.Dec.{eqb, leb}
 use lib.IntN.{ℤ, natAbs, _+ℤ_, _-ℤ_}
+use borrow.Author.Tests.{eqb-false}
 use Rattle.float_format.specs.Format.{binary64}
 use Rattle.float_format.specs.Rounding.{lroundRefusal}
 use Rattle.float_format.proofs.Units.{lt-or-ge}
@@ -20,10 +21,10 @@ use Rattle.recipe.specs.Text as text
 use Rattle.recipe.proofs.Rows.{before-10, before-20, before-30, after-32}
 use Rattle.semantics.specs.Value.{Datum, double, whole, fitsWord}
 use Rattle.semantics.specs.Value as value
-use Rattle.semantics.specs.Range.{Range, doubles, wholes, low, high, least, most, isNegative, isPositive, absoluteRange, lroundRange, holdsZero, infiniteEnd, fmodRange, lowPower, highPower, ldexpRange, wholeRange, doubleRange, Ranged, ranged, rangeRule, stepRange}
+use Rattle.semantics.specs.Range.{Range, doubles, wholes, low, high, least, most, isNegative, isPositive, absoluteRange, lroundRange, holdsZero, infiniteEnd, fmodRange, lowPower, highPower, ldexpRange, remainderRange, wholeRange, doubleRange, Ranged, ranged, rangeRule, stepRange}
 use Rattle.semantics.specs.Range as range
 use Rattle.semantics.specs.Promise.{Lies}
-use Rattle.semantics.proofs.Rules.{Unlisted, by-opcode}
+use Rattle.semantics.proofs.Rules.{Unlisted, Absent, absent, by-opcode}
 use Rattle.semantics.proofs.Sound.Kept.{never}
 
 -- a value that lies in a range has its kind
@@ -50,23 +51,26 @@ three true false a b c d e f = refl
 three false t a b c d e f = refl
 
 -- an opcode that the table does not have
-past : (k c : ℕ) → c ≤ k → (k ≡ c → ⊥) → c < k
-past k c l n = omega arith
+past : (k c : ℕ) → c ≤ k → eqb k c ≡ false → c < k
+past k c l n = let d : k ≡ c → ⊥ = eqb-false k c n in omega arith
 
 pub unlisted-row : (k : ℕ) → Unlisted k → rowOf k ≡ Unknown
 unlisted-row k h =
-    ⊎-elim (λ l. before-10 k l (h .0 .0 .0 .0 .0 .0 .0 .0 .0 .0 .0 .0 .0 .0 .0 .0 .0 .0 .0 .1) (h .0 .0 .0 .0 .0 .0 .0 .0 .0 .0 .0 .0 .0 .0 .0 .0 .0 .0 .1) (h .0 .0 .0 .0 .0 .0 .0 .0 .0 .0 .0 .0 .0 .0 .0 .0 .0 .1) (h .0 .0 .0 .0 .0 .0 .0 .0 .0 .0 .0 .0 .0 .0 .0 .0 .1))
+    ⊎-elim (λ l. before-10 k l (eqb-false k 0x01 (n .no-01)) (eqb-false k 0x02 (n .no-02)) (eqb-false k 0x03 (n .no-03)) (eqb-false k 0x04 (n .no-04)))
     (λ g. ⊎-elim (λ l. before-20 k (from-16 g) l) (λ g. ⊎-elim (λ l. before-30 k (from-32 g) l) (λ g. after-32 k (from-48 g)) (lt-or-ge k 0x30)) (lt-or-ge k 0x20))
     (lt-or-ge k 0x10)
   where
-    from-16 : 0x10 ≤ k → 0x18 < k
-    from-16 g = past k 24 (past k 23 (past k 22 (past k 21 (past k 20 (past k 19 (past k 18 (past k 17 (past k 16 g (h .0 .0 .0 .0 .0 .0 .0 .0 .0 .0 .0 .0 .0 .0 .0 .1)) (h .0 .0 .0 .0 .0 .0 .0 .0 .0 .0 .0 .0 .0 .0 .1)) (h .0 .0 .0 .0 .0 .0 .0 .0 .0 .0 .0 .0 .0 .1)) (h .0 .0 .0 .0 .0 .0 .0 .0 .0 .0 .0 .0 .1)) (h .0 .0 .0 .0 .0 .0 .0 .0 .0 .0 .0 .1)) (h .0 .0 .0 .0 .0 .0 .0 .0 .0 .0 .1)) (h .0 .0 .0 .0 .0 .0 .0 .0 .0 .1)) (h .0 .0 .0 .0 .0 .0 .0 .0 .1)) (h .0 .0 .0 .0 .0 .0 .0 .1)
+    n : Absent k
+    n = absent k h
 
-    from-32 : 0x20 ≤ k → 0x23 < k
-    from-32 g = past k 35 (past k 34 (past k 33 (past k 32 g (h .0 .0 .0 .0 .0 .0 .1)) (h .0 .0 .0 .0 .0 .1)) (h .0 .0 .0 .0 .1)) (h .0 .0 .0 .1)
+    from-16 : 0x10 ≤ k → 0x18 < k
+    from-16 g = past k 0x18 (past k 0x17 (past k 0x16 (past k 0x15 (past k 0x14 (past k 0x13 (past k 0x12 (past k 0x11 (past k 0x10 g (n .no-10)) (n .no-11)) (n .no-12)) (n .no-13)) (n .no-14)) (n .no-15)) (n .no-16)) (n .no-17)) (n .no-18)
+
+    from-32 : 0x20 ≤ k → 0x24 < k
+    from-32 g = past k 0x24 (past k 0x23 (past k 0x22 (past k 0x21 (past k 0x20 g (n .no-20)) (n .no-21)) (n .no-22)) (n .no-23)) (n .no-24)
 
     from-48 : 0x30 ≤ k → 0x32 < k
-    from-48 g = past k 50 (past k 49 (past k 48 g (h .0 .0 .1)) (h .0 .1)) (h .1)
+    from-48 g = past k 0x32 (past k 0x31 (past k 0x30 g (n .no-30)) (n .no-31)) (n .no-32)
 
 module _ (p q : ℕ) (a b : Range) where
   abbrev Good : ℕ → Type 0
@@ -81,6 +85,9 @@ module _ (p q : ℕ) (a b : Range) where
   ldexp-kind : HasKind Double (ldexpRange a b)
   ldexp-kind =
       either Double (infiniteEnd a || not (eqb (ldexpRefusal binary64 (low a) (lowPower a b)) 0) || not (eqb (ldexpRefusal binary64 (high a) (highPower a b)) 0)) (range.refused 21) _ tt refl
+
+  remainder-kind : HasKind Double (remainderRange a b)
+  remainder-kind = either Double (infiniteEnd a || holdsZero b) (range.refused 20) _ tt refl
 
   whole-kind : (l h : ℤ) → HasKind Whole (wholeRange l h)
   whole-kind l h = either Whole (fitsWord l && fitsWord h) _ (range.refused 21) refl tt
@@ -115,6 +122,7 @@ module _ (p q : ℕ) (a b : Range) where
       (λ e. refl)
       (λ e. fmod-kind)
       (λ e. ldexp-kind)
+      (λ e. remainder-kind)
       (λ e. whole-kind (least a +ℤ least b) (most a +ℤ most b))
       (λ e. whole-kind (least a -ℤ most b) (most a -ℤ least b))
       (λ e. double-kind)

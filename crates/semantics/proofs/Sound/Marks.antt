@@ -3,16 +3,14 @@
 use mathlib.Core.Path.{_≡_, refl, sym, _∙_}
 use mathlib.Core.Bool.{Bool, true, false, not, _&&_, _||_, cond}
 use mathlib.Core.List.{List}
-use mathlib.Core.Logic.{⊎-elim, inr}
 use Prim.Native.Nat.{ℕ, _+_, _^_, _≤_, _<_}
-use native.Mathlib.Nat.{eq-zero-or-pos}
 use native.Mathlib.Omega.{arith}
 use lib.Dec.{eqb, leb}
 use lib.IntN.{ℤ, pos, natAbs}
 use lib.ListN.{length, getD, take}
 use lib.Signed.{nonNeg}
-use borrow.Author.Tests.{ltb-false, leb-true, eq-eqb, eqb-true, not-true}
-use Rattle.float_format.specs.Format.{binary64, infinity, unsigned, isInfinite, isZero, absolute, negated}
+use borrow.Author.Tests.{ltb-false, leb-true, eqb-true, not-true}
+use Rattle.float_format.specs.Format.{binary64, infinity, unsigned, isInfinite, absolute, negated}
 use Rattle.float_format.specs.Number.{above, under, AtMost, below, isIntegral}
 use Rattle.float_format.specs.Rounding.{integral}
 use Rattle.float_format.specs.declared.Direction.{Direction}
@@ -21,9 +19,10 @@ use Rattle.float_format.proofs.Order.{at-most-trans}
 use Rattle.float_format.proofs.Integers.{integer-number, finite-integer, integer-absolute, integer-negated, integer-equal, zero-integer, encoded-integer}
 use Rattle.ordering.specs.Ordering.{fmin, fmax}
 use Rattle.ordering.proofs.MinMax.{fmin-integral, fmax-integral}
-use Rattle.ordering.proofs.Ranks.{zero-is}
 use Rattle.remainder.specs.Remainder.{fmod, fmodRefusal}
-use Rattle.remainder.proofs.Laws.{fmod-integral, fmod-refuses}
+use Rattle.remainder.proofs.Laws.{fmod-integral}
+use Rattle.nearest_remainder.specs.Nearest.{remainder}
+use Rattle.nearest_remainder.proofs.Laws.{remainder-integral}
 use Rattle.recipe.specs.declared.Step.{Step}
 use Rattle.recipe.specs.Text.{noStep, inputsIn, first, second}
 use Rattle.semantics.specs.Value.{Datum, double, whole, asDouble, asWhole, done, refused, ofWhole, ruleOf, stepValue}
@@ -38,7 +37,7 @@ use Rattle.semantics.proofs.Marks.{by-marks}
 use Rattle.semantics.proofs.MarkRows.{fraction-unmarked, ldexp-unmarked}
 use Rattle.semantics.proofs.Sound.Kept.{never, no-or, both, Between, valid, between}
 use Rattle.semantics.proofs.Sound.Floats.{between-finite}
-use Rattle.semantics.proofs.Sound.Fractions.{finite-end}
+use Rattle.semantics.proofs.Sound.Fractions.{finite-end, divides}
 
 -- ---- numbers
 
@@ -52,14 +51,16 @@ zero-whole = zero-integer binary64 0 valid refl
 pub of-whole : (z : ℤ) → natAbs z ≤ 2 ^ 53 → isIntegral binary64 (ofWhole z) ≡ true
 of-whole z h = encoded-integer binary64 (not (nonNeg z)) (natAbs z) valid (omega arith) h
 
--- 22: where fmod refuses nothing, the divisor is not zero
-pub of-fmod : (x y : ℕ) → isIntegral binary64 x ≡ true → isIntegral binary64 y ≡ true → fmodRefusal binary64 x y ≡ 0 → isIntegral binary64 (fmod binary64 x y) ≡ true
-of-fmod x y hx hy e = ⊎-elim (λ z. absurd (zero z)) (λ p. fmod-integral binary64 x y hx hy p) (eq-zero-or-pos (unsigned binary64 y))
-  where
-    zero : unsigned binary64 y ≡ 0 → ⊥
-    zero z =
-        let q : isZero binary64 y ≡ true = zero-is binary64 y ∙ eq-eqb (unsigned binary64 y) 0 z in
-        omega (arith, fmod-refuses binary64 x y .1 (integer-number binary64 x hx, integer-number binary64 y hy, inr q))
+-- 22, 24: where nothing is refused, the divisor is not zero
+module _ (x y : ℕ) (hx : isIntegral binary64 x ≡ true) (hy : isIntegral binary64 y ≡ true) (e : fmodRefusal binary64 x y ≡ 0) where
+  some-divisor : 0 < unsigned binary64 y
+  some-divisor = divides x y (integer-number binary64 x hx) (integer-number binary64 y hy) e .nonzero
+
+  pub of-fmod : isIntegral binary64 (fmod binary64 x y) ≡ true
+  of-fmod = fmod-integral binary64 x y hx hy some-divisor
+
+  pub of-remainder : isIntegral binary64 (remainder binary64 x y) ≡ true
+  of-remainder = remainder-integral binary64 x y hx hy some-divisor
 
 -- ---- one step, of a double in a range of doubles
 
@@ -111,13 +112,16 @@ module _ (t : Step) (w : ℕ) (a b : Datum) (l h x : ℕ) (ma mb : Bool) (i : Be
       let p : (ma ≡ true) × (mb ≡ true) = both ma mb m in
       rw q at (keeps (asDouble a) (asDouble b) (operand a (wa (p .0))) (operand b (wb (p .1))))
 
-  remainder : cond (eqb (fmodRefusal binary64 (asDouble a) (asDouble b)) 0) (done (double (fmod binary64 (asDouble a) (asDouble b)))) (refused 20) ≡ done (double x)
+  -- 22, 24: the same, of answers that may be refused
+  divided : (f : ℕ → ℕ → ℕ)
+      → ((y z : ℕ) → isIntegral binary64 y ≡ true → isIntegral binary64 z ≡ true → fmodRefusal binary64 y z ≡ 0 → isIntegral binary64 (f y z) ≡ true)
+      → cond (eqb (fmodRefusal binary64 (asDouble a) (asDouble b)) 0) (done (double (f (asDouble a) (asDouble b)))) (refused 20) ≡ done (double x)
       → (ma && mb) ≡ true → isIntegral binary64 x ≡ true
-  remainder e m =
+  divided f keeps e m =
       let g = accepted (eqb (fmodRefusal binary64 (asDouble a) (asDouble b)) 0) _ (double x) 20 e in
-      let q : fmod binary64 (asDouble a) (asDouble b) ≡ x = cc in
+      let q : f (asDouble a) (asDouble b) ≡ x = cc in
       let p : (ma ≡ true) × (mb ≡ true) = both ma mb m in
-      rw q at (of-fmod (asDouble a) (asDouble b) (operand a (wa (p .0))) (operand b (wb (p .1))) (eqb-true (fmodRefusal binary64 (asDouble a) (asDouble b)) 0 (g .0)))
+      rw q at (keeps (asDouble a) (asDouble b) (operand a (wa (p .0))) (operand b (wb (p .1))) (eqb-true (fmodRefusal binary64 (asDouble a) (asDouble b)) 0 (g .0)))
 
   as-double : cond (leb (natAbs (asWhole a)) (2 ^ 53)) (done (double (ofWhole (asWhole a)))) (refused 22) ≡ done (double x) → isIntegral binary64 x ≡ true
   as-double e =
@@ -144,8 +148,9 @@ module _ (t : Step) (w : ℕ) (a b : Datum) (l h x : ℕ) (ma mb : Bool) (i : Be
       (λ e m. never (sym m))
       (binary (fmin binary64) (fmin-integral binary64))
       (binary (fmax binary64) (fmax-integral binary64))
-      remainder
+      (divided (fmod binary64) of-fmod)
       (λ e m. never (sym m ∙ ldexp-unmarked ma mb l h))
+      (divided (remainder binary64) of-remainder)
       (λ e m. never (sym m))
       (λ e m. never (sym m))
       (λ e m. as-double e)

@@ -24,6 +24,7 @@ use Rattle.semantics.proofs.Sound.Fractions.{fraction-held, fmod-kept}
 use Rattle.semantics.proofs.Sound.Inputs.{double-input, whole-input, double-constant, whole-constant}
 use Rattle.semantics.proofs.Sound.Lround.{lround-kept}
 use Rattle.semantics.proofs.Sound.Scaled.{ldexp-kept}
+use Rattle.semantics.proofs.Sound.Nearest.{remainder-kept}
 use Rattle.semantics.proofs.Sound.Doubles.{double-kept}
 
 -- ---- by the opcode
@@ -73,6 +74,7 @@ module _ (t : Step) (w : ℕ) (r s : Range) (a b : Datum) (la : Lies r a) (lb : 
       (λ e g. held-double (larger x y))
       (λ e g. fmod-kept x y)
       (λ e g. ldexp-kept x n)
+      (λ e g. remainder-kept x y)
       (λ e g. whole-kept (sum m n))
       (λ e g. whole-kept (difference m n))
       (λ e g. double-kept m)
