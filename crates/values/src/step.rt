@@ -1,4 +1,4 @@
-// The step rules: a step's value from its operands' values (document 01, "Recipe text"), and refusals 20 to 22.
+// The step rules: a step's value from its operands' values (document 01, "Recipe text", and step 24 of document 02, W-204), and refusals 20 to 22.
 ghost use mathlib.Core.Path.{_≡_};
 ghost use mathlib.Core.Bool.{cond};
 ghost use Prim.Native.Nat.{_^_, _≤_};
@@ -9,6 +9,7 @@ ghost use Rattle.float_format.specs.Format.{binary64};
 ghost use Rattle.float_format.specs.Rounding.{lroundRefusal, lroundValue};
 ghost use Rattle.splitting.specs.Splitting.{modfFraction};
 ghost use Rattle.remainder.specs.Remainder.{fmod, fmodRefusal};
+ghost use Rattle.nearest_remainder.specs.Nearest.{remainder};
 ghost use Rattle.scaling.specs.Scaling.{ldexp, ldexpRefusal};
 ghost use Rattle.semantics.specs.Value.{whole, done, refused, fitsWord, ofWhole, stepValue};
 ghost use Rattle.values.specs.Carried.{real, carried};
@@ -106,15 +107,22 @@ pub fn lround_of(x: u64) -> Outcome
     Outcome::Refused(21)
 }
 
+// 22, 24: a remainder, where it is not refused.
+fn divided(word: u64, refusal: u64) -> Outcome
+    ensures { λ r. ⌜ (outcomeOf r ≡ cond (eqb refusal 0) (done (real word)) (refused 20)) × RealOutcome r ⌝ }
+{
+    if refusal == 0 {
+        return real_of(word);
+    }
+    Outcome::Refused(20)
+}
+
 // 22
 fn fmod_of(x: u64, y: u64) -> Outcome
     ensures { λ r. ⌜ (outcomeOf r ≡ cond (eqb (fmodRefusal binary64 x y) 0) (done (real (fmod binary64 x y))) (refused 20)) × RealOutcome r ⌝ }
 {
     let answer = remainder::binary64::fmod(x, y);
-    if answer.refusal == 0 {
-        return real_of(answer.word);
-    }
-    Outcome::Refused(20)
+    divided(answer.word, answer.refusal)
 }
 
 // 23
@@ -126,6 +134,14 @@ pub fn ldexp_of(x: u64, n: i64) -> Outcome
         return real_of(answer.word);
     }
     Outcome::Refused(21)
+}
+
+// 24
+fn remainder_of(x: u64, y: u64) -> Outcome
+    ensures { λ r. ⌜ (outcomeOf r ≡ cond (eqb (fmodRefusal binary64 x y) 0) (done (real (remainder binary64 x y))) (refused 20)) × RealOutcome r ⌝ }
+{
+    let answer = nearest_remainder::binary64::remainder(x, y);
+    divided(answer.word, answer.refusal)
 }
 
 // 30
@@ -208,6 +224,7 @@ pub fn step_value(t: Step, w: u64, a: Value, b: Value) -> Outcome
         0x21 => real_of(ordering::binary64::fmax(x, y)),
         0x22 => fmod_of(x, y),
         0x23 => ldexp_of(x, n),
+        0x24 => remainder_of(x, y),
         0x30 => sum_of(m, n),
         0x31 => difference_of(m, n),
         0x32 => double_of(m),

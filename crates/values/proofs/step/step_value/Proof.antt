@@ -9,6 +9,7 @@ use mir.Val.{ofZ, toZ}
 use Rattle.float_format.specs.Format.{binary64}
 use Rattle.float_format.specs.Rounding.{lroundRefusal, lroundValue}
 use Rattle.remainder.specs.Remainder.{fmod, fmodRefusal}
+use Rattle.nearest_remainder.specs.Nearest.{remainder}
 use Rattle.scaling.specs.Scaling.{ldexp, ldexpRefusal}
 use Rattle.semantics.specs.Value.{Datum, double, whole, done, refused, fitsWord, ofWhole, ruleOf, stepValue}
 use Rattle.values.specs.Carried.{real, carriedValue, carried}
@@ -133,6 +134,9 @@ fmod-of-requires c κs = search needs
 ldexp-of-requires : tie.Need-ldexp-of-requires
 ldexp-of-requires c κs = search needs
 
+remainder-of-requires : tie.Need-remainder-of-requires
+remainder-of-requires c κs = search needs
+
 sum-of-requires : tie.Need-sum-of-requires
 sum-of-requires c κs = search needs
 
@@ -223,22 +227,28 @@ returns-18 : tie.Need-returns-18
 unfolding ruleOf
 returns-18 c =
     let d = c .before .before in
-    (c .sum-of .ensures .0 ∙ carried-cond (fitsWord ((toZ w64 (ofZ w64 (d .before .whole .result))) +ℤ (toZ w64 (ofZ w64 (d .whole2 .result))))) (whole ((toZ w64 (ofZ w64 (d .before .whole .result))) +ℤ (toZ w64 (ofZ w64 (d .whole2 .result))))) 21 ∙ carried-arm d (c .before .match .keys18), c .sum-of .ensures .1)
+    (c .remainder-of .ensures .0 ∙ carried-cond (eqb (fmodRefusal binary64 (d .before .before .before .double .result) (d .before .before .double2 .result)) 0) (double (remainder binary64 (d .before .before .before .double .result) (d .before .before .double2 .result))) 20 ∙ carried-arm d (c .before .match .keys18), c .remainder-of .ensures .1)
 
 returns-19 : tie.Need-returns-19
 unfolding ruleOf
 returns-19 c =
     let d = c .before .before in
-    (c .difference-of .ensures .0 ∙ carried-cond (fitsWord ((toZ w64 (ofZ w64 (d .before .whole .result))) -ℤ (toZ w64 (ofZ w64 (d .whole2 .result))))) (whole ((toZ w64 (ofZ w64 (d .before .whole .result))) -ℤ (toZ w64 (ofZ w64 (d .whole2 .result))))) 21 ∙ carried-arm d (c .before .match .keys19), c .difference-of .ensures .1)
+    (c .sum-of .ensures .0 ∙ carried-cond (fitsWord ((toZ w64 (ofZ w64 (d .before .whole .result))) +ℤ (toZ w64 (ofZ w64 (d .whole2 .result))))) (whole ((toZ w64 (ofZ w64 (d .before .whole .result))) +ℤ (toZ w64 (ofZ w64 (d .whole2 .result))))) 21 ∙ carried-arm d (c .before .match .keys19), c .sum-of .ensures .1)
 
 returns-20 : tie.Need-returns-20
 unfolding ruleOf
 returns-20 c =
     let d = c .before .before in
-    (c .double-of .ensures .0 ∙ carried-cond (leb (natAbs (toZ w64 (ofZ w64 (d .before .whole .result)))) (2 ^ 53)) (double (ofWhole (toZ w64 (ofZ w64 (d .before .whole .result))))) 22 ∙ carried-arm d (c .before .match .keys20), c .double-of .ensures .1)
+    (c .difference-of .ensures .0 ∙ carried-cond (fitsWord ((toZ w64 (ofZ w64 (d .before .whole .result))) -ℤ (toZ w64 (ofZ w64 (d .whole2 .result))))) (whole ((toZ w64 (ofZ w64 (d .before .whole .result))) -ℤ (toZ w64 (ofZ w64 (d .whole2 .result))))) 21 ∙ carried-arm d (c .before .match .keys20), c .difference-of .ensures .1)
 
 returns-21 : tie.Need-returns-21
-returns-21 c = (c .whole-of3 .ensures .0 ∙ ap carried (unlisted _ _ _ _ _ _ _ (c .before .match .rest) ∙ arm (c .before .before) refl), c .whole-of3 .ensures .1)
+unfolding ruleOf
+returns-21 c =
+    let d = c .before .before in
+    (c .double-of .ensures .0 ∙ carried-cond (leb (natAbs (toZ w64 (ofZ w64 (d .before .whole .result)))) (2 ^ 53)) (double (ofWhole (toZ w64 (ofZ w64 (d .before .whole .result))))) 22 ∙ carried-arm d (c .before .match .keys21), c .double-of .ensures .1)
+
+returns-22 : tie.Need-returns-22
+returns-22 c = (c .whole-of3 .ensures .0 ∙ ap carried (unlisted _ _ _ _ _ _ _ (c .before .match .rest) ∙ arm (c .before .before) refl), c .whole-of3 .ensures .1)
 
 pub step-value-spec : {M : Type 1} → statement M
 step-value-spec =
@@ -276,6 +286,7 @@ step-value-spec =
     real-of-requires-11
     fmod-of-requires
     ldexp-of-requires
+    remainder-of-requires
     sum-of-requires
     difference-of-requires
     double-of-requires
@@ -300,4 +311,5 @@ step-value-spec =
     returns-18
     returns-19
     returns-20
-    returns-21)
+    returns-21
+    returns-22)
