@@ -1,16 +1,16 @@
 -- Ranges by their two ends, in the shape in which the range rules' functions make them. Assumes nothing.
-use mathlib.Core.Path.{_≡_, refl, sym, ap}
+use mathlib.Core.Path.{_≡_, refl}
 use mathlib.Core.Bool.{Bool, true, false, not, _&&_, _||_, cond}
 use Prim.Native.Nat.{ℕ, _^_}
 use lib.Dec.{eqb, leb}
 use lib.IntN.{ℤ, natAbs}
-use Rattle.float_format.specs.Format.{binary64}
+use Rattle.float_format.specs.Format.{binary64, negated}
 use Rattle.float_format.specs.Rounding.{lroundRefusal, lroundValue}
 use Rattle.scaling.specs.Scaling.{ldexp, ldexpRefusal}
 use Rattle.semantics.specs.Value.{whole, Outcome, done, fitsWord, ofWhole}
 use Rattle.values.specs.Carried.{real}
 use Rattle.semantics.specs.Value as value
-use Rattle.semantics.specs.Range.{Range, doubles, wholes, Ranged, ranged, refused, low, high, least, most, isNegative, isPositive, infiniteEnd, holdsZero, greatest, fmodLow, fmodHigh, fmodRange, ldexpRange, lroundRange, wholeRange, doubleRange}
+use Rattle.semantics.specs.Range.{Range, doubles, wholes, Ranged, ranged, refused, low, high, least, most, isNegative, isPositive, infiniteEnd, holdsZero, greatest, fmodLow, fmodHigh, fmodRange, ldexpRange, remainderMost, remainderRange, lroundRange, wholeRange, doubleRange}
 use Rattle.ranges.specs.Carried.{between, carried}
 
 -- ---- two ends, each refused by a test of its own
@@ -75,11 +75,25 @@ ldexp-ranged low high least most m n o p e i j f g =
     (scaled-ends (infiniteEnd (doubles low high)) (eqb (ldexpRefusal binary64 low (cond (isNegative low) most least)) 0) (eqb (ldexpRefusal binary64 high (cond (isPositive high) most least)) 0)
     (ldexp binary64 low (cond (isNegative low) most least)) (ldexp binary64 high (cond (isPositive high) most least)) e)
 
--- ---- fmod, by its one test
+-- ---- fmod and remainder, by their one test
 
-pub divided-refused : (a b : Range) → (infiniteEnd a || holdsZero b) ≡ true → refused 20 ≡ carried (fmodRange a b)
-divided-refused a b e = sym (ap (λ (t : Bool). carried (cond t (refused 20) (ranged (doubles (fmodLow (low a) (greatest b)) (fmodHigh (high a) (greatest b)))))) e)
+refused-by : (t : Bool) (r : Range) → t ≡ true → refused 20 ≡ carried (cond t (refused 20) (ranged r))
+refused-by t r e = rw e
 
-pub divided : (a b : Range) → (infiniteEnd a || holdsZero b) ≡ false
-    → carried (ranged (doubles (fmodLow (low a) (greatest b)) (fmodHigh (high a) (greatest b)))) ≡ carried (fmodRange a b)
-divided a b e = sym (ap (λ (t : Bool). carried (cond t (refused 20) (ranged (doubles (fmodLow (low a) (greatest b)) (fmodHigh (high a) (greatest b)))))) e)
+passed-by : (t : Bool) (r : Range) → t ≡ false → carried (ranged r) ≡ carried (cond t (refused 20) (ranged r))
+passed-by t r e = rw e
+
+module _ (a b : Range) where
+  pub fmod-refused : (infiniteEnd a || holdsZero b) ≡ true → refused 20 ≡ carried (fmodRange a b)
+  fmod-refused e = refused-by (infiniteEnd a || holdsZero b) (doubles (fmodLow (low a) (greatest b)) (fmodHigh (high a) (greatest b))) e
+
+  pub fmod-ranged : (infiniteEnd a || holdsZero b) ≡ false
+      → carried (ranged (doubles (fmodLow (low a) (greatest b)) (fmodHigh (high a) (greatest b)))) ≡ carried (fmodRange a b)
+  fmod-ranged e = passed-by (infiniteEnd a || holdsZero b) (doubles (fmodLow (low a) (greatest b)) (fmodHigh (high a) (greatest b))) e
+
+  pub remainder-refused : (infiniteEnd a || holdsZero b) ≡ true → refused 20 ≡ carried (remainderRange a b)
+  remainder-refused e = refused-by (infiniteEnd a || holdsZero b) (doubles (negated binary64 (remainderMost a b)) (remainderMost a b)) e
+
+  pub remainder-ranged : (infiniteEnd a || holdsZero b) ≡ false
+      → carried (ranged (doubles (negated binary64 (remainderMost a b)) (remainderMost a b))) ≡ carried (remainderRange a b)
+  remainder-ranged e = passed-by (infiniteEnd a || holdsZero b) (doubles (negated binary64 (remainderMost a b)) (remainderMost a b)) e

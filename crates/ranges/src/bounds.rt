@@ -1,8 +1,9 @@
-// The range rules: a step's range from its operands' ranges (document 01, "Recipe text"), and refusals 20 to 22 as stated for the sheet.
+// The range rules: a step's range from its operands' ranges (document 01, "Recipe text", and step 24 of document 02, W-204), and refusals 20 to 22
+// as stated for the sheet.
 ghost use mathlib.Core.Path.{_≡_};
-ghost use mathlib.Core.Bool.{cond};
+ghost use mathlib.Core.Bool.{_||_, cond};
 ghost use Rattle.float_format.specs.Format.{binary64, isInfinite};
-ghost use Rattle.semantics.specs.Range.{doubles, wholes, infiniteEnd, holdsZero, greatest, isNegative, isPositive, fractionLow, fractionHigh, absoluteRange, fmodLow, fmodHigh, fmodRange, ldexpRange, stepRange};
+ghost use Rattle.semantics.specs.Range.{doubles, wholes, infiniteEnd, holdsZero, greatest, isNegative, isPositive, fractionLow, fractionHigh, absoluteRange, fmodLow, fmodHigh, fmodRange, ldexpRange, remainderRange, stepRange};
 ghost use Rattle.semantics.specs.Range as range;
 ghost use Rattle.values.specs.Seen.{outcomeOf, RealOutcome};
 ghost use Rattle.ranges.specs.Seen.{RealRange, seenRange, boundOf, RealBound};
@@ -131,7 +132,14 @@ fn absolute_range(low: u64, high: u64) -> Bound
     doubles_of(Binary64::fabs(low), Binary64::fabs(high))
 }
 
-// 22: m is the greatest magnitude of the divisor, whose range is s to t below.
+// 22, 24: whether a dividend from low to high has no remainder by a divisor from s to t.
+fn no_remainder(low: u64, high: u64, s: u64, t: u64) -> bool
+    ensures { λ r. ⌜ r ≡ (infiniteEnd (doubles low high) || holdsZero (doubles s t)) ⌝ }
+{
+    any(infinite_end(low, high), holds_zero(s, t))
+}
+
+// 22: m is the greatest magnitude of the divisor.
 fn fmod_low(x: u64, m: u64) -> u64
     ensures { λ r. ⌜ r ≡ fmodLow x m ⌝ }
 {
@@ -153,7 +161,7 @@ fn fmod_high(x: u64, m: u64) -> u64
 fn fmod_range(low: u64, high: u64, s: u64, t: u64) -> Bound
     ensures { λ r. ⌜ (boundOf r ≡ carried (fmodRange (doubles low high) (doubles s t))) × RealBound r ⌝ }
 {
-    if any(infinite_end(low, high), holds_zero(s, t)) {
+    if no_remainder(low, high, s, t) {
         return Bound::Refused(20);
     }
     let m = greatest(s, t);
@@ -191,6 +199,17 @@ fn ldexp_range(low: u64, high: u64, least: i64, most: i64) -> Bound
     )
 }
 
+// 24: no further from zero than the dividend, nor than the divisor.
+fn remainder_range(low: u64, high: u64, s: u64, t: u64) -> Bound
+    ensures { λ r. ⌜ (boundOf r ≡ carried (remainderRange (doubles low high) (doubles s t))) × RealBound r ⌝ }
+{
+    if no_remainder(low, high, s, t) {
+        return Bound::Refused(20);
+    }
+    let m = fmin(greatest(low, high), greatest(s, t));
+    doubles_of(Binary64::negate(m), m)
+}
+
 // The range of the step t, a and b being its operands' ranges.
 pub fn step_range(t: Step, a: Range, b: Range) -> Bound
     requires { ⌜ RealRange a × RealRange b ⌝ }
@@ -225,6 +244,7 @@ pub fn step_range(t: Step, a: Range, b: Range) -> Bound
         0x21 => doubles_of(fmax(low, low2), fmax(high, high2)),
         0x22 => fmod_range(low, high, low2, high2),
         0x23 => ldexp_range(low, high, least2, most2),
+        0x24 => remainder_range(low, high, low2, high2),
         0x30 => between(sum_of(least, least2), sum_of(most, most2)),
         0x31 => between(difference_of(least, most2), difference_of(most, least2)),
         0x32 => between(double_of(least), double_of(most)),

@@ -216,6 +216,9 @@ fmod-range-requires c κs = search needs
 ldexp-range-requires : tie.Need-ldexp-range-requires
 ldexp-range-requires c κs = search needs
 
+remainder-range-requires : tie.Need-remainder-range-requires
+remainder-range-requires c κs = search needs
+
 sum-of-requires : tie.Need-sum-of-requires
 sum-of-requires c κs = search needs
 
@@ -322,18 +325,22 @@ returns-17 c = ((rw (low-is (c .before .before), high-is (c .before .before), le
 
 returns-18 : tie.Need-returns-18
 unfolding rangeRule
-returns-18 c = (c .between4 .ensures .0 ∙ whole-ranged (least (a (c .before .before .before .before)) +ℤ least (b (c .before .before .before .before))) (most (a (c .before .before .before .before)) +ℤ most (b (c .before .before .before .before))) _ _ (rw (least-is (c .before .before .before .before), least2-is (c .before .before .before .before)) at (c .before .before .sum-of .ensures .0)) (rw (most-is (c .before .before .before .before), most2-is (c .before .before .before .before)) at (c .before .sum-of2 .ensures .0)) ∙ arm (c .before .before .before .before) (c .before .before .before .match .keys18), c .between4 .ensures .1)
+returns-18 c = ((rw (low-is (c .before .before), high-is (c .before .before), low2-is (c .before .before), high2-is (c .before .before)) at (c .remainder-range .ensures .0)) ∙ arm (c .before .before) (c .before .match .keys18), c .remainder-range .ensures .1)
 
 returns-19 : tie.Need-returns-19
 unfolding rangeRule
-returns-19 c = (c .between5 .ensures .0 ∙ whole-ranged (least (a (c .before .before .before .before)) -ℤ most (b (c .before .before .before .before))) (most (a (c .before .before .before .before)) -ℤ least (b (c .before .before .before .before))) _ _ (rw (least-is (c .before .before .before .before), most2-is (c .before .before .before .before)) at (c .before .before .difference-of .ensures .0)) (rw (most-is (c .before .before .before .before), least2-is (c .before .before .before .before)) at (c .before .difference-of2 .ensures .0)) ∙ arm (c .before .before .before .before) (c .before .before .before .match .keys19), c .between5 .ensures .1)
+returns-19 c = (c .between4 .ensures .0 ∙ whole-ranged (least (a (c .before .before .before .before)) +ℤ least (b (c .before .before .before .before))) (most (a (c .before .before .before .before)) +ℤ most (b (c .before .before .before .before))) _ _ (rw (least-is (c .before .before .before .before), least2-is (c .before .before .before .before)) at (c .before .before .sum-of .ensures .0)) (rw (most-is (c .before .before .before .before), most2-is (c .before .before .before .before)) at (c .before .sum-of2 .ensures .0)) ∙ arm (c .before .before .before .before) (c .before .before .before .match .keys19), c .between4 .ensures .1)
 
 returns-20 : tie.Need-returns-20
 unfolding rangeRule
-returns-20 c = (c .between6 .ensures .0 ∙ double-ranged (a (c .before .before .before .before)) _ _ (rw (least-is (c .before .before .before .before)) at (c .before .before .double-of .ensures .0)) (rw (most-is (c .before .before .before .before)) at (c .before .double-of2 .ensures .0)) ∙ arm (c .before .before .before .before) (c .before .before .before .match .keys20), c .between6 .ensures .1)
+returns-20 c = (c .between5 .ensures .0 ∙ whole-ranged (least (a (c .before .before .before .before)) -ℤ most (b (c .before .before .before .before))) (most (a (c .before .before .before .before)) -ℤ least (b (c .before .before .before .before))) _ _ (rw (least-is (c .before .before .before .before), most2-is (c .before .before .before .before)) at (c .before .before .difference-of .ensures .0)) (rw (most-is (c .before .before .before .before), least2-is (c .before .before .before .before)) at (c .before .difference-of2 .ensures .0)) ∙ arm (c .before .before .before .before) (c .before .before .before .match .keys20), c .between5 .ensures .1)
 
 returns-21 : tie.Need-returns-21
-returns-21 c = ((rw (c .before .before .whole-of5 .ensures .0, c .before .whole-of6 .ensures .0) at (c .between7 .ensures .0)) ∙ ap carried (unbounded (step (c .before .before .before .before)) (a (c .before .before .before .before)) (b (c .before .before .before .before)) (c .before .before .before .match .rest)), c .between7 .ensures .1)
+unfolding rangeRule
+returns-21 c = (c .between6 .ensures .0 ∙ double-ranged (a (c .before .before .before .before)) _ _ (rw (least-is (c .before .before .before .before)) at (c .before .before .double-of .ensures .0)) (rw (most-is (c .before .before .before .before)) at (c .before .double-of2 .ensures .0)) ∙ arm (c .before .before .before .before) (c .before .before .before .match .keys21), c .between6 .ensures .1)
+
+returns-22 : tie.Need-returns-22
+returns-22 c = ((rw (c .before .before .whole-of5 .ensures .0, c .before .whole-of6 .ensures .0) at (c .between7 .ensures .0)) ∙ ap carried (unbounded (step (c .before .before .before .before)) (a (c .before .before .before .before)) (b (c .before .before .before .before)) (c .before .before .before .match .rest)), c .between7 .ensures .1)
 
 pub step-range-spec : {M : Type 1} → statement M
 step-range-spec =
@@ -392,6 +399,7 @@ step-range-spec =
     doubles-of-requires-11
     fmod-range-requires
     ldexp-range-requires
+    remainder-range-requires
     sum-of-requires
     sum-of-requires-2
     between-requires-4
@@ -424,4 +432,5 @@ step-range-spec =
     returns-18
     returns-19
     returns-20
-    returns-21)
+    returns-21
+    returns-22)
