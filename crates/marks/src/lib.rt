@@ -1,4 +1,4 @@
-// The whole mark of a step (document 02, W-203).
+// The whole mark of a step (document 02, W-203, and W-204 for step 24).
 ghost use mathlib.Core.Path.{_≡_};
 ghost use mathlib.Core.Bool.{_&&_};
 ghost use Rattle.float_format.specs.Format.{binary64};
@@ -75,7 +75,7 @@ pub fn step_mark(opcode: u8, r: Range, a: bool, b: bool) -> bool
     if within(0x16, 0x17, opcode) {
         return a;
     }
-    if within(0x20, 0x22, opcode) {
+    if any(within(0x20, 0x22, opcode), opcode == 0x24) {
         return all(a, b);
     }
     false
