@@ -2,6 +2,7 @@
 use mathlib.Core.Path.{_≡_, refl, sym, ap, _∙_}
 use mathlib.Core.Bool.{Bool, true, false, not, cond}
 use mathlib.Core.List.{List, [], _∷_}
+use mathlib.Core.Logic.{_⊎_, inl, inr}
 use Prim.Native.Nat.{ℕ, _^_}
 use lib.Dec.{eqb, leb}
 use lib.IntN.{ℤ, natAbs}
@@ -95,14 +96,15 @@ at-opcode t a b o c e h = (h .0 ∙ ap (λ (n : ℕ). operandIn t (firstOf (caus
 
 -- what the last arm of the match knows
 abbrev Other : ℕ → Type 0
-Other k = (((((Unit {0} × (k ≡ 24 → ⊥)) × (k ≡ 34 → ⊥)) × (k ≡ 35 → ⊥)) × (k ≡ 48 → ⊥)) × (k ≡ 49 → ⊥)) × (k ≡ 50 → ⊥)
+Other k = (((((Unit {0} × (k ≡ 24 → ⊥)) × ((k ≡ 34) ⊎ (k ≡ 36) → ⊥)) × (k ≡ 35 → ⊥)) × (k ≡ 48 → ⊥)) × (k ≡ 49 → ⊥)) × (k ≡ 50 → ⊥)
 
 pub tells-other : (t : Step) (a b : Range) (o c : ℕ) → o ≡ 0 → c ≡ 0 → Other (t .opcode) → Tells t (causesOf (t .opcode) a b) o c
 unfolding causesOf
 tells-other t a b o c e f h =
     simp (
       ne-eqb (t .opcode) 24 (h .0 .0 .0 .0 .0 .1),
-      ne-eqb (t .opcode) 34 (h .0 .0 .0 .0 .1),
+      ne-eqb (t .opcode) 34 (λ n. h .0 .0 .0 .0 .1 (inl n)),
+      ne-eqb (t .opcode) 36 (λ n. h .0 .0 .0 .0 .1 (inr n)),
       ne-eqb (t .opcode) 35 (h .0 .0 .0 .1),
       ne-eqb (t .opcode) 48 (h .0 .0 .1),
       ne-eqb (t .opcode) 49 (h .0 .1),

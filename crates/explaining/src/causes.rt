@@ -65,7 +65,7 @@ fn of_ends(t: Step, low: bool, c: u64, high: bool, d: u64, after: Reason) -> Rea
     after
 }
 
-// 22: the dividend's range is low to high, the divisor's low2 to high2.
+// 22, 24: the dividend's range is low to high, the divisor's low2 to high2.
 fn of_remainder(t: Step, low: u64, high: u64, low2: u64, high2: u64) -> Reason
     ensures { λ r. ⌜ Tells t (remainderCauses (doubles low high) (doubles low2 high2)) (r .operand) (r .code) ⌝ }
 {
@@ -111,7 +111,7 @@ pub(crate) fn reason_of(t: Step, a: Range, b: Range) -> Reason
     let opcode = t.opcode;
     match opcode {
         0x18 => of_outcomes(t, lround_of(low), 4, lround_of(high), 5),
-        0x22 => of_remainder(t, low, high, low2, high2),
+        0x22 | 0x24 => of_remainder(t, low, high, low2, high2),
         0x23 => of_ldexp(t, low, high, least2, most2),
         0x30 => of_outcomes(t, sum_of(least, least2), 6, sum_of(most, most2), 7),
         0x31 => of_outcomes(

@@ -1,12 +1,14 @@
 -- `reason_of` meets its contract, an arm at a time: what the arm's function ensures, at the arm's opcode. Assumes nothing.
 use mathlib.Core.Path.{_≡_, _∙_}
+use mathlib.Core.Logic.{⊎-elim}
 use lib.IntN.{_+ℤ_, _-ℤ_}
 use mir.Syntax.{w64}
 use mir.Val.{ofZ, toZ}
 use Rattle.recipe.specs.declared.Step.{Step}
 use Rattle.semantics.specs.Range.{Range, low, high, least, most}
-use Rattle.semantics.specs.Cause.{causesOf}
+use Rattle.semantics.specs.Cause.{remainderCauses, causesOf}
 use Rattle.ranges.specs.Seen.{seenRange}
+use Rattle.explaining.specs.Reasons.{Tells}
 use Rattle.explaining.proofs.Reasons.{lround-told, whole-told, double-told, tells-other, at-opcode}
 use borrow.Author.Needs.{needs}
 use Rattle.explaining.proofs.causes.reason_of.Statement.{statement}
@@ -129,7 +131,8 @@ returns-2 : tie.Need-returns-2
 unfolding causesOf
 returns-2 c =
     let e = c .before .before in
-    at-opcode (step e) (a e) (b e) _ _ (c .before .match .keys2) (rw (low-is e, high-is e, low2-is e, high2-is e) at (c .of-remainder .ensures))
+    let h : Tells (step e) (remainderCauses (a e) (b e)) _ _ = rw (low-is e, high-is e, low2-is e, high2-is e) at (c .of-remainder .ensures) in
+    ⊎-elim (λ k. at-opcode (step e) (a e) (b e) _ _ k h) (λ k. at-opcode (step e) (a e) (b e) _ _ k h) (c .before .match .keys2)
 
 returns-3 : tie.Need-returns-3
 unfolding causesOf
