@@ -126,9 +126,9 @@ mod tests {
         let mut met = met.into_inner().unwrap();
         met.sort();
         met.dedup();
-        // Document 01's 16 functions at two widths, five of them at a third, and W-201's two
-        // conversions.
-        assert_eq!(met.len(), 16 * 2 + 5 + 2);
+        // Document 01's 16 functions at two widths, five of them at a third, W-201's two
+        // conversions, and W-204's two functions at two widths.
+        assert_eq!(met.len(), 16 * 2 + 5 + 2 + 2 * 2);
     }
 
     #[test]

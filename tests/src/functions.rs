@@ -3,7 +3,7 @@
 use crate::answer::Answer;
 use crate::library::*;
 use crate::operands::Operands;
-use crate::reference::{conversion, fmod, ldexp, order, parts, rounding, short};
+use crate::reference::{conversion, fmod, ldexp, order, parts, remainder, rounding, short};
 use crate::reference::{Format, BINARY16, BINARY32, BINARY64};
 
 /// A library function on up to two operands. A pattern narrower than 64 bits stands in the low
@@ -15,8 +15,8 @@ pub type Reference = fn(&Format, u64, u64) -> Answer;
 
 pub struct Function {
     pub name: &'static str,
-    /// The number that stands for the function in vectors. It is the recipe opcode where there is
-    /// one.
+    /// The number that stands for the function in vectors. It is the opcode of the recipe step where
+    /// there is one, but for remainder's: 24 has stood for nextafter since before W-204.
     pub number: u8,
     pub operands: Operands,
     /// The library's function at each format of an operand that it is there for.
@@ -27,7 +27,7 @@ pub struct Function {
     pub short: Reference,
 }
 
-pub const FUNCTIONS: [Function; 18] = [
+pub const FUNCTIONS: [Function; 20] = [
     Function {
         name: "floor",
         number: 0x10,
@@ -239,6 +239,28 @@ pub const FUNCTIONS: [Function; 18] = [
         reference: |format, x, _| parts::frexp(format, x),
         short: |format, x, _| short::parts::frexp(format, x),
     },
+    Function {
+        name: "remainder",
+        number: 0x26,
+        operands: Operands::Division,
+        library: &[
+            (BINARY64, |x, y| ew_remainder_f64(x, y).into()),
+            (BINARY32, |x, y| ew_remainder_f32(x as u32, y as u32).into()),
+        ],
+        reference: |format, x, y| remainder::remainder(format, x, y),
+        short: |format, x, y| short::remainder::remainder(format, x, y),
+    },
+    Function {
+        name: "remquo",
+        number: 0x27,
+        operands: Operands::Division,
+        library: &[
+            (BINARY64, |x, y| ew_remquo_f64(x, y).into()),
+            (BINARY32, |x, y| ew_remquo_f32(x as u32, y as u32).into()),
+        ],
+        reference: |format, x, y| remainder::remquo(format, x, y),
+        short: |format, x, y| short::remainder::remquo(format, x, y),
+    },
 ];
 
 /// The formats of document 01, which all its functions have.
@@ -256,6 +278,14 @@ pub fn format_of_width(width: u32) -> Option<&'static Format> {
 impl Function {
     pub fn named(name: &str) -> Option<&'static Function> {
         FUNCTIONS.iter().find(|function| function.name == name)
+    }
+
+    /// The function that a recipe step with this opcode works by, where there is one.
+    pub fn of_step(opcode: u8) -> Option<&'static Function> {
+        match opcode {
+            0x24 => Function::named("remainder"),
+            _ => FUNCTIONS.iter().find(|function| function.number == opcode),
+        }
     }
 
     /// The formats of an operand that the library has the function for.

@@ -6,6 +6,7 @@
 
 pub mod answer;
 pub mod comparison;
+pub mod divisions;
 #[cfg(target_arch = "x86_64")]
 pub mod environment;
 pub mod functions;

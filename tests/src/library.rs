@@ -109,6 +109,40 @@ impl From<Frexp32> for Answer {
     }
 }
 
+/// A remainder, the last digits of its quotient and the refusal number, `ew_remquo64` of the header.
+#[repr(C)]
+pub struct Remquo64 {
+    word: u64,
+    quotient: i32,
+    refusal: u32,
+}
+
+impl From<Remquo64> for Answer {
+    fn from(remquo: Remquo64) -> Answer {
+        Answer {
+            refusal: remquo.refusal.into(),
+            words: [remquo.word, remquo.quotient as u64],
+        }
+    }
+}
+
+/// A remainder, the last digits of its quotient and the refusal number, `ew_remquo32` of the header.
+#[repr(C)]
+pub struct Remquo32 {
+    word: u32,
+    quotient: i32,
+    refusal: u64,
+}
+
+impl From<Remquo32> for Answer {
+    fn from(remquo: Remquo32) -> Answer {
+        Answer {
+            refusal: remquo.refusal,
+            words: [remquo.word.into(), remquo.quotient as u64],
+        }
+    }
+}
+
 /// What a run gives back, `ew_run_answer` of the header: a refusal's number and place, or the last
 /// step's kind and word. What isn't given is 0.
 #[repr(C)]
@@ -392,6 +426,10 @@ unsafe extern "C" {
     pub safe fn ew_ldexp_f32(x: u32, n: i64) -> Word32;
     pub safe fn ew_fmod_f64(x: u64, y: u64) -> Word64;
     pub safe fn ew_fmod_f32(x: u32, y: u32) -> Word32;
+    pub safe fn ew_remainder_f64(x: u64, y: u64) -> Word64;
+    pub safe fn ew_remainder_f32(x: u32, y: u32) -> Word32;
+    pub safe fn ew_remquo_f64(x: u64, y: u64) -> Remquo64;
+    pub safe fn ew_remquo_f32(x: u32, y: u32) -> Remquo32;
     pub safe fn ew_nextafter_f64(x: u64, y: u64) -> Word64;
     pub safe fn ew_nextafter_f32(x: u32, y: u32) -> Word32;
     pub safe fn ew_fmin_f64(x: u64, y: u64) -> u64;

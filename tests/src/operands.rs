@@ -2,7 +2,7 @@
 
 use crate::patterns::Random;
 use crate::reference::{Format, BINARY16};
-use crate::{narrowing, pairs, patterns, scalings};
+use crate::{divisions, narrowing, pairs, patterns, scalings};
 
 /// The operands of a function. A case always has two words; one that isn't used is 0.
 #[derive(Clone, Copy, Debug, PartialEq, Eq)]
@@ -13,6 +13,8 @@ pub enum Operands {
     PatternToHalf,
     /// Two patterns.
     Patterns,
+    /// Two patterns, of which the first is divided by the second and the quotient rounded.
+    Division,
     /// A pattern and a whole number of 64 bits, as its two's complement.
     PatternAndWhole,
 }
@@ -21,6 +23,11 @@ impl Operands {
     /// Whether one pattern is all that the function takes.
     pub fn is_one_pattern(&self) -> bool {
         matches!(self, Operands::Pattern | Operands::PatternToHalf)
+    }
+
+    /// Whether two patterns are what the function takes.
+    pub fn is_two_patterns(&self) -> bool {
+        matches!(self, Operands::Patterns | Operands::Division)
     }
 
     /// The cases where a mistake would sit.
@@ -37,6 +44,11 @@ impl Operands {
             Operands::Patterns => {
                 let edges = pairs::edges(format);
                 every_pair(&edges, &edges)
+            }
+            Operands::Division => {
+                let mut edges = Operands::Patterns.edges(format);
+                edges.extend(divisions::edges(format));
+                edges
             }
             Operands::PatternAndWhole => {
                 let powers: Vec<u64> = scalings::powers().iter().map(|&n| n as u64).collect();
@@ -56,6 +68,7 @@ impl Operands {
             Operands::Pattern => [random.pattern(format), 0],
             Operands::PatternToHalf => [random.narrowed(format, &BINARY16), 0],
             Operands::Patterns => random.pair(format),
+            Operands::Division => random.division(format),
             Operands::PatternAndWhole => random.scaling(format),
         }
     }
@@ -65,7 +78,7 @@ impl Operands {
         let digits = format.width() as usize / 4;
         match self {
             Operands::Pattern | Operands::PatternToHalf => vec![digits],
-            Operands::Patterns => vec![digits, digits],
+            Operands::Patterns | Operands::Division => vec![digits, digits],
             Operands::PatternAndWhole => vec![digits, 16],
         }
     }

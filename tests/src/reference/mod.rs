@@ -15,6 +15,7 @@ pub mod order;
 pub mod overflow;
 pub mod parts;
 pub mod recipe;
+pub mod remainder;
 pub mod rounding;
 pub mod short;
 pub mod whole;

@@ -8,10 +8,10 @@ mod language;
 mod ldexp;
 mod nextafter;
 mod parts;
+mod remainder;
 mod roundings;
 
 use estrenwind_tests::functions::{Function, Library};
-use estrenwind_tests::operands::Operands;
 use estrenwind_tests::patterns::{edges, edges_are_all, Random};
 use estrenwind_tests::reference::{Class, Format};
 
@@ -41,10 +41,7 @@ fn cases(name: &str, format: &Format) -> Vec<[u64; 2]> {
     let mut cases = operands.edges(format);
     cases.extend((0..2_000_000).map(|_| operands.random(format, &mut random)));
     let is_nan = |x: u64| format.classify(x) == Class::Nan;
-    cases.retain(|&[x, y]| match operands {
-        Operands::Pattern | Operands::PatternToHalf | Operands::PatternAndWhole => !is_nan(x),
-        Operands::Patterns => !is_nan(x) && !is_nan(y),
-    });
+    cases.retain(|&[x, y]| !is_nan(x) && !(operands.is_two_patterns() && is_nan(y)));
     cases
 }
 

@@ -37,16 +37,12 @@ fn has_nan(operation: &Operation, words: [u64; 2]) -> bool {
         .any(|(kind, word)| kind.is_nan(word))
 }
 
-/// What the function of the same number is tried on; few of the edges where there are many.
+/// What the step's function is tried on; few of the edges where there are many.
 fn cases(operation: &Operation, random: &mut Random) -> Vec<[u64; 2]> {
-    let function = |number: u8| {
-        let functions = &estrenwind_tests::functions::FUNCTIONS;
-        functions.iter().find(|function| function.number == number)
-    };
-    let operands = function(operation.opcode).map(|function: &Function| function.operands);
-    let Some(operands) = operands else {
+    let Some(function) = Function::of_step(operation.opcode) else {
         return wholes(random);
     };
+    let operands = function.operands;
     let edges = operands.edges(&BINARY64);
     let step = if operands == Operands::Pattern { 1 } else { 29 };
     let mut cases: Vec<[u64; 2]> = edges.into_iter().step_by(step).collect();
@@ -87,7 +83,7 @@ fn every_step_on_its_edges() {
         }
         let opcode = operation.opcode;
         assert!(completed > 1_000, "{opcode:x}: {completed}");
-        let refuses = matches!(opcode, 0x18 | 0x22 | 0x23 | 0x30 | 0x31 | 0x32);
+        let refuses = matches!(opcode, 0x18 | 0x22..=0x24 | 0x30..=0x32);
         assert_eq!(refused > 500, refuses, "{opcode:x}: {refused}");
     }
 }

@@ -12,6 +12,7 @@ mod marks;
 mod order;
 mod parts;
 mod recipe;
+mod remainder;
 mod rounding;
 mod sheet;
 mod short;

@@ -12,15 +12,16 @@ fn check(function: &Function, format: &Format, [x, y]: [u64; 2]) {
     assert_eq!(answer, expected, "{} {format:?} {x:x} {y:x}", function.name);
 }
 
-fn functions_of(operands: Operands) -> impl Iterator<Item = &'static Function> {
+/// The functions whose operands are as asked for.
+fn functions_of(is_asked: fn(&Operands) -> bool) -> impl Iterator<Item = &'static Function> {
     FUNCTIONS
         .iter()
-        .filter(move |function| function.operands == operands)
+        .filter(move |function| is_asked(&function.operands))
 }
 
 #[test]
 fn on_every_pattern_of_small_formats() {
-    for function in FUNCTIONS.iter().filter(|f| f.operands.is_one_pattern()) {
+    for function in functions_of(Operands::is_one_pattern) {
         for format in SMALL.iter().chain([&WIDE]) {
             for x in Counted::new(format).patterns() {
                 check(function, format, [x, 0]);
@@ -31,7 +32,7 @@ fn on_every_pattern_of_small_formats() {
 
 #[test]
 fn on_every_pair_of_patterns_of_small_formats() {
-    for function in functions_of(Operands::Patterns) {
+    for function in functions_of(Operands::is_two_patterns) {
         for format in PAIRED.iter().chain([&WIDE]) {
             let counted = Counted::new(format);
             for x in counted.patterns() {
@@ -45,7 +46,7 @@ fn on_every_pair_of_patterns_of_small_formats() {
 
 #[test]
 fn on_every_pattern_of_small_formats_and_every_power() {
-    for function in functions_of(Operands::PatternAndWhole) {
+    for function in functions_of(|operands| *operands == Operands::PatternAndWhole) {
         for format in SMALL.iter().chain([&WIDE]) {
             let most = format.infinity_log2() as i64 + 4;
             let ends = [i64::MIN, i64::MIN + 1, i64::MAX - 1, i64::MAX];

@@ -1,6 +1,6 @@
 //! fmod in machine words.
 
-use super::{pack, split};
+use super::{pack, residue, split};
 use crate::answer::Answer;
 use crate::reference::{Class, Format};
 
@@ -15,19 +15,10 @@ pub fn fmod(format: &Format, x: u64, y: u64) -> Answer {
     }
 }
 
-/// The sign-less pattern of what |x| leaves when divided by |y|, |x| not below |y|.
-///
-/// Then x's exponent is not below y's. The power of two of y is cancelled, the rest of x's put to
-/// the remainder 64 places at a time: (a mod b)·2^k leaves the same as a·2^k.
+/// The sign-less pattern of what |x| leaves when divided by |y|, |x| not below |y|. Then x's exponent
+/// is not below y's, and the power of two of y is cancelled.
 fn rest(format: &Format, x: u64, y: u64) -> u64 {
     let (a, exponent) = split(format, x);
     let (b, cancelled) = split(format, y);
-    let mut rest = a % b;
-    let mut places = exponent - cancelled;
-    while places > 0 && rest > 0 {
-        let portion = places.min(64);
-        rest = (((rest as u128) << portion) % b as u128) as u64;
-        places -= portion;
-    }
-    pack(format, rest, cancelled)
+    pack(format, residue(a, exponent - cancelled, b), cancelled)
 }

@@ -12,17 +12,31 @@ pub mod fmod;
 pub mod ldexp;
 pub mod order;
 pub mod parts;
+pub mod remainder;
 pub mod rounding;
 pub mod whole;
 
 use super::format::Format;
 
 /// Significand and exponent of a finite x: its magnitude is significand · 2^exponent units.
-fn split(format: &Format, x: u64) -> (u64, u32) {
+pub fn split(format: &Format, x: u64) -> (u64, u32) {
     match (format.exponent_field(x), format.fraction(x)) {
         (0, m) => (m, 0),
         (e, m) => ((1 << format.fraction_bits) + m, e as u32 - 1),
     }
+}
+
+/// What a·2^places leaves when divided by b: the places are put to the remainder 64 at a time, since
+/// (a mod b)·2^k leaves the same as a·2^k.
+fn residue(a: u64, places: u32, b: u64) -> u64 {
+    let mut left = a % b;
+    let mut places = places;
+    while places > 0 && left > 0 {
+        let portion = places.min(64);
+        left = (((left as u128) << portion) % b as u128) as u64;
+        places -= portion;
+    }
+    left
 }
 
 /// The number of binary digits, 0 for zero.
@@ -32,7 +46,7 @@ fn size(word: u64) -> u32 {
 
 /// The sign-less pattern of significand · 2^exponent units, a number that the format can write;
 /// infinity where it is beyond the largest.
-fn pack(format: &Format, significand: u64, exponent: u32) -> u64 {
+pub fn pack(format: &Format, significand: u64, exponent: u32) -> u64 {
     let all_digits = format.fraction_bits + 1;
     let digits = size(significand);
     if digits == 0 {
