@@ -109,14 +109,21 @@ fn fmod_and_its_special_cases() {
     }
 }
 
-#[test]
-fn fmod_refuses_where_there_is_no_remainder() {
-    for &(width, operands) in INVALID {
+/// Width, operands, and the refusal.
+pub fn invalid() -> impl Iterator<Item = (u32, [u64; 2], Answer)> {
+    INVALID.iter().map(|&(width, operands)| {
         let default_nan = if width == 64 {
             0x7ff8000000000000
         } else {
             0x7fc00000
         };
-        check("fmod", width, operands, Answer::refused(2, default_nan));
+        (width, operands, Answer::refused(2, default_nan))
+    })
+}
+
+#[test]
+fn fmod_refuses_where_there_is_no_remainder() {
+    for (width, operands, refused) in invalid() {
+        check("fmod", width, operands, refused);
     }
 }

@@ -11,6 +11,7 @@ mod halves;
 mod ldexp;
 mod nextafter;
 mod parts;
+mod remainder;
 mod roundings;
 
 use estrenwind_tests::answer::Answer;
