@@ -98,6 +98,10 @@ mod tests {
         assert_eq!((case.function.name, case.format.width()), ("nearbyint", 16));
         assert_eq!(case.operands, [0xc100, 0]);
 
+        let case = parse("remquo 32 c0f00000 40000000").unwrap();
+        assert_eq!((case.function.name, case.format.width()), ("remquo", 32));
+        assert_eq!(case.operands, [0xc0f0_0000, 0x4000_0000]);
+
         let case = parse("f32_to_f16 32 477ff000").unwrap();
         assert_eq!(case.operands, [0x477f_f000, 0]);
     }
@@ -117,6 +121,8 @@ mod tests {
             "fmod 64 bfe0000000000000",
             "fmod 32 bf000000 bfe0000000000000",
             "fmod 32 bf000000 bf000000 bf000000",
+            "remainder 64 bfe0000000000000",
+            "remquo 16 b800 b800",
             "ldexp 32 bf000000",
             "ldexp 32 bf000000 ffffff6a",
             "ldexp 64 bfe0000000000000 -150",
