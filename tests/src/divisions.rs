@@ -54,11 +54,12 @@ impl Random {
     /// Two patterns to divide by each other: as other functions have them, or with a quotient at or
     /// beside a half or an integer.
     pub fn division(&mut self, format: &Format) -> [u64; 2] {
-        let [x, y] = match self.below(8) {
-            0..=2 => return self.pair(format),
-            3 | 4 => self.half_multiple(format),
-            5 => self.about_half_multiple(format),
-            6 => self.chosen_residue(format),
+        let [x, y] = match self.below(16) {
+            0..=4 => return self.pair(format),
+            5 => return self.with_special(format),
+            6..=9 => self.half_multiple(format),
+            10 | 11 => self.about_half_multiple(format),
+            12 | 13 => self.chosen_residue(format),
             _ => self.small_quotient(format),
         };
         let signs = self.word();

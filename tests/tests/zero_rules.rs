@@ -17,8 +17,8 @@ const FATES: [Fate; 3] = [Fate::ChosenHere, Fate::HandedOn, Fate::Ended];
 fn fates(opcode: u8, part: Part) -> &'static [Fate] {
     match (opcode, part) {
         (0x20 | 0x21, _) => &FATES,
-        (0x10..=0x14 | 0x17 | 0x23, _) | (0x15 | 0x22, Part::Word) => &[Fate::HandedOn],
-        (0x15 | 0x16 | 0x18 | 0x22, _) => &[Fate::Ended],
+        (0x10..=0x14 | 0x17 | 0x23, _) | (0x15 | 0x22 | 0x24, Part::Word) => &[Fate::HandedOn],
+        (0x15 | 0x16 | 0x18 | 0x22 | 0x24, _) => &[Fate::Ended],
         _ => &[],
     }
 }

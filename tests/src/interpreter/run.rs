@@ -5,7 +5,7 @@ use super::Kind::{self, Double, Whole};
 use super::Refused;
 use crate::answer::Answer;
 use crate::library::RunAnswer;
-use crate::reference::short::{fmod, ldexp, order, parts, rounding, whole};
+use crate::reference::short::{fmod, ldexp, order, parts, remainder, rounding, whole};
 use crate::reference::BINARY64;
 
 /// `ew_run` again.
@@ -115,6 +115,7 @@ fn evaluate(steps: &[Step], values: &mut [u64; MOST_STEPS]) -> Result<(), Refuse
             0x21 => Ok(order::fmax(&BINARY64, a(), b())),
             0x22 => or_refused(fmod::fmod(&BINARY64, a(), b()), 20),
             0x23 => or_refused(ldexp::ldexp(&BINARY64, a(), b() as i64), 21),
+            0x24 => or_refused(remainder::remainder(&BINARY64, a(), b()), 20),
             0x30 => (a() as i64)
                 .checked_add(b() as i64)
                 .map(|n| n as u64)

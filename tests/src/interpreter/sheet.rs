@@ -150,6 +150,7 @@ fn range(step: &Step, earlier: &[Range]) -> Result<Range, u64> {
         }
         0x22 => from_both(fmod(doubles(a), doubles(b))?),
         0x23 => Ok(Range::of_doubles(ldexp(doubles(a), wholes(b))?)),
+        0x24 => from_both(remainder(doubles(a), doubles(b))?),
         0x30 => {
             let ([a_low, a_high], [b_low, b_high]) = (wholes(a), wholes(b));
             let low = a_low.checked_add(b_low).ok_or(21u64)?;
@@ -232,10 +233,18 @@ fn fmax(x: f64, y: f64) -> f64 {
     }
 }
 
-fn fmod([a_low, a_high]: [f64; 2], [b_low, b_high]: [f64; 2]) -> Result<[f64; 2], u64> {
-    if a_low.is_infinite() || a_high.is_infinite() || b_low <= 0.0 && b_high >= 0.0 {
+/// Where every a has a remainder by every b: an infinite number has none, and none is left by zero.
+fn divides([a_low, a_high]: [f64; 2], [b_low, b_high]: [f64; 2]) -> Result<(), u64> {
+    let may_be_zero = b_low <= 0.0 && b_high >= 0.0;
+    if a_low.is_infinite() || a_high.is_infinite() || may_be_zero {
         return Err(20);
     }
+    Ok(())
+}
+
+fn fmod(a: [f64; 2], b: [f64; 2]) -> Result<[f64; 2], u64> {
+    divides(a, b)?;
+    let ([a_low, a_high], [b_low, b_high]) = (a, b);
     let m = fmax(b_low.abs(), b_high.abs());
     let low = if a_low >= 0.0 {
         0.0
@@ -244,6 +253,14 @@ fn fmod([a_low, a_high]: [f64; 2], [b_low, b_high]: [f64; 2]) -> Result<[f64; 2]
     };
     let high = if a_high <= 0.0 { 0.0 } else { fmin(a_high, m) };
     Ok([low, high])
+}
+
+/// As far on both sides of zero: what is left may have either sign, whatever a's is.
+fn remainder(a: [f64; 2], b: [f64; 2]) -> Result<[f64; 2], u64> {
+    divides(a, b)?;
+    let [of_a, of_b] = [a, b].map(|[low, high]| low.abs().max(high.abs()));
+    let m = if of_a < of_b { of_a } else { of_b };
+    Ok([-m, m])
 }
 
 fn ldexp([a_low, a_high]: [f64; 2], [b_low, b_high]: [i64; 2]) -> Result<[f64; 2], u64> {

@@ -34,7 +34,7 @@ const fn of_one_step_too(opcode: u8, codes: &'static [u8]) -> Facts {
 }
 
 /// Every set of facts that can be true at once.
-pub const FACTS: [Facts; 27] = [
+pub const FACTS: [Facts; 34] = [
     of_one_step_too(0x22, &[0x01]),
     of_one_step_too(0x22, &[0x02]),
     of_one_step_too(0x22, &[0x03]),
@@ -42,6 +42,13 @@ pub const FACTS: [Facts; 27] = [
     of_one_step_too(0x22, &[0x01, 0x03]),
     of_one_step_too(0x22, &[0x02, 0x03]),
     of_one_step_too(0x22, &[0x01, 0x02, 0x03]),
+    of_one_step_too(0x24, &[0x01]),
+    of_one_step_too(0x24, &[0x02]),
+    of_one_step_too(0x24, &[0x03]),
+    of_one_step_too(0x24, &[0x01, 0x02]),
+    of_one_step_too(0x24, &[0x01, 0x03]),
+    of_one_step_too(0x24, &[0x02, 0x03]),
+    of_one_step_too(0x24, &[0x01, 0x02, 0x03]),
     facts(0x18, &[0x04]),
     facts(0x18, &[0x05]),
     facts(0x18, &[0x04, 0x05]),

@@ -341,8 +341,8 @@ impl Random {
         (self.word() & BINARY64.sign_bit()) | BINARY64.infinity() | payload
     }
 
-    /// A constant that makes steps refuse: fmod (20), the steps with whole answers and ldexp (21),
-    /// or the turn to a double (22).
+    /// A constant that makes steps refuse: fmod and remainder (20), the steps with whole answers and
+    /// ldexp (21), or the turn to a double (22).
     pub fn troublesome(&mut self, refusal: u64) -> (Kind, u64) {
         let infinity = BINARY64.infinity() | (self.word() & BINARY64.sign_bit());
         let zero = self.word() & BINARY64.sign_bit();

@@ -16,7 +16,8 @@ fn by_operands(opcode: u8, range: Range) -> [bool; 4] {
 }
 
 /// "Marked: every whole-kind step; 32; .. 10 to 14 when both ends are finite. fabs and negate keep the
-/// mark; fmin, fmax and fmod have it when both operands do; all others lack it."
+/// mark; fmin, fmax and fmod have it when both operands do; all others lack it." W-204: "marked when
+/// both operands are".
 #[test]
 fn the_rule_opcode_by_opcode() {
     let range = |[low, high]: [f64; 2]| Range {
@@ -35,7 +36,7 @@ fn the_rule_opcode_by_opcode() {
             0x02 | 0x04 | 0x18 | 0x30 | 0x31 | 0x32 => [true; 4],
             0x10..=0x14 => [true; 4],
             0x16 | 0x17 => [false, false, true, true],
-            0x20..=0x22 => [false, false, false, true],
+            0x20..=0x22 | 0x24 => [false, false, false, true],
             0x01 | 0x03 | 0x15 | 0x23 => [false; 4],
             _ => panic!("{opcode:x} is no opcode"),
         };

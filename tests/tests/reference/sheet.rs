@@ -36,7 +36,8 @@ pub fn small_range(random: &mut Random, kind: Kind) -> (Range, Vec<u64>) {
 }
 
 /// Every value of the operands gives a value in the range, and the ends of the range are among
-/// them: but for modf's fraction and fmod, whose rules say only how far the values can reach.
+/// them: but for modf's fraction, fmod and remainder, whose rules say only how far the values can
+/// reach.
 #[test]
 fn ranges_hold_every_value_and_reach_no_further() {
     let mut random = Random::new(0x510);
@@ -74,7 +75,7 @@ fn ranges_hold_every_value_and_reach_no_further() {
                 }
             }
             assert!(
-                reached == [true; 2] || [0x15, 0x22].contains(&opcode),
+                reached == [true; 2] || [0x15, 0x22, 0x24].contains(&opcode),
                 "{opcode:x} of {a:x?}, {b:x?}: {range:x?} reached {reached:?}"
             );
         }

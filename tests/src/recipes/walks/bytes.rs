@@ -19,7 +19,8 @@ pub fn of_every_sort() -> Draft {
             Line::step(0x23, 5, 1),
             Line::step(0x30, 3, 1),
             Line::step(0x32, 7, 0),
-            Line::step(0x18, 8, 0),
+            Line::step(0x24, 8, 2),
+            Line::step(0x18, 9, 0),
         ],
         words: vec![0xbff8000000000000, 4],
     }

@@ -201,7 +201,7 @@ mod tests {
             assert_eq!(fate_of(opcode, [MINUS, 0], false), chosen);
             assert_eq!(fate_of(opcode, [MINUS, 0], true), Ok(Some(Fate::HandedOn)));
         }
-        for opcode in [0x01, 0x03, 0x10, 0x17, 0x22, 0x23, 0x32] {
+        for opcode in [0x01, 0x03, 0x10, 0x17, 0x22, 0x23, 0x24, 0x32] {
             assert_eq!(fate_of(opcode, [0, MINUS], false), Err(()));
             assert_eq!(fate_of(opcode, [0, MINUS], true), Ok(Some(Fate::HandedOn)));
         }

@@ -78,7 +78,7 @@ impl Random {
         if lines[last].kind() == Some(kinds[operand]) && self.below(4) != 0 {
             places[operand] = last;
         }
-        if operation.opcode == 0x22 && self.below(8) != 0 {
+        if [0x22, 0x24].contains(&operation.opcode) && self.below(8) != 0 {
             places[1] = DIVISOR;
         }
         Line::step(operation.opcode, places[0], places[1])

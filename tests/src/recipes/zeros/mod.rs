@@ -16,6 +16,7 @@
 //! | fmin, fmax | handed on where that zero is chosen, else ended | the same |
 //! | modf's fraction | handed on: the fraction of a zero has its sign | ended: +0 |
 //! | fmod | handed on from A; a zero B is refusal 20 whatever its sign | ended: +0; in b refusal 20 |
+//! | remainder | the same as fmod's | ended: of magnitudes; in b refusal 20 |
 //! | fabs | ended: +0 | ended: +0 |
 //! | lround | ended: whole numbers have one zero | ended |
 //! | inputs, constants, 30 to 32 | no operand is a double | the same |
@@ -57,7 +58,7 @@ const FRAMES: usize = 4;
 
 /// Both rules on recipes as the other tests have them.
 pub fn as_elsewhere() -> Counts {
-    compare(1_000, Calls::as_elsewhere)
+    compare(1_500, Calls::as_elsewhere)
 }
 
 /// Both rules on recipes in which zeros of both signs meet.

@@ -25,6 +25,7 @@ pub fn name(opcode: u8) -> &'static str {
         0x21 => "fmax",
         0x22 => "fmod",
         0x23 => "ldexp",
+        0x24 => "remainder",
         0x30 => "whole A+B",
         0x31 => "whole A-B",
         0x32 => "whole to double",

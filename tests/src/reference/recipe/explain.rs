@@ -45,15 +45,30 @@ use Operand::{A, B};
 
 const ZERO: u64 = 0;
 
+fn b_holds_zero(_: &Function, way: Way, _: Range, b: Range) -> bool {
+    b.holds(way, Kind::Double, ZERO)
+}
+
+fn a_low_is_infinite(_: &Function, _: Way, a: Range, _: Range) -> bool {
+    is_infinite(a.low)
+}
+
+fn a_high_is_infinite(_: &Function, _: Way, a: Range, _: Range) -> bool {
+    is_infinite(a.high)
+}
+
 /// "Codes in order": of those that share an opcode, the first that is true is given. "For 06, 07
-/// and ldexp the operand given is A." Step 24, which is to share 01 to 03, comes with W-204.
+/// and ldexp the operand given is A." "Step 24 shares 01 to 03."
 #[rustfmt::skip]
-pub static REASONS: [Reason; 15] = [
+pub static REASONS: [Reason; 18] = [
     // "divisor range holds zero"
-    reason(0x01, 0x22, B, |_, way, _, b| b.holds(way, Kind::Double, ZERO)),
+    reason(0x01, 0x22, B, b_holds_zero),
+    reason(0x01, 0x24, B, b_holds_zero),
     // "dividend's low, high end infinite"
-    reason(0x02, 0x22, A, |_, _, a, _| is_infinite(a.low)),
-    reason(0x03, 0x22, A, |_, _, a, _| is_infinite(a.high)),
+    reason(0x02, 0x22, A, a_low_is_infinite),
+    reason(0x02, 0x24, A, a_low_is_infinite),
+    reason(0x03, 0x22, A, a_high_is_infinite),
+    reason(0x03, 0x24, A, a_high_is_infinite),
     // "lround of the low, high end"
     reason(0x04, 0x18, A, |lround, way, a, _| lround.value(way, a.low, 0).is_err()),
     reason(0x05, 0x18, A, |lround, way, a, _| lround.value(way, a.high, 0).is_err()),
@@ -63,8 +78,8 @@ pub static REASONS: [Reason; 15] = [
     reason(0x07, 0x30, A, |sum, way, a, b| sum.value(way, a.high, b.high).is_err()),
     reason(0x07, 0x31, A, |difference, way, a, b| difference.value(way, a.high, b.low).is_err()),
     // "ldexp operand's low, high end infinite"
-    reason(0x08, 0x23, A, |_, _, a, _| is_infinite(a.low)),
-    reason(0x09, 0x23, A, |_, _, a, _| is_infinite(a.high)),
+    reason(0x08, 0x23, A, a_low_is_infinite),
+    reason(0x09, 0x23, A, a_high_is_infinite),
     // "ldexp's low, high end overflows": an infinite end is scaled to itself, which is no overflow
     reason(0x0a, 0x23, A, |ldexp, way, a, b| {
         let [by_low, _] = scaling_powers(way, a, b);

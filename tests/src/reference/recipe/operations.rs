@@ -2,7 +2,9 @@
 
 use super::ranges::{self, Range, Rule};
 use crate::answer::Answer;
-use crate::reference::{fmod, ldexp, order, parts, rounding, short, whole, Class, BINARY64};
+use crate::reference::{
+    fmod, ldexp, order, parts, remainder, rounding, short, whole, Class, BINARY64,
+};
 use std::cmp::Ordering;
 
 /// What a step's word is.
@@ -211,7 +213,7 @@ use Kind::{Double, Whole};
 
 /// Every opcode there is.
 #[rustfmt::skip]
-pub static OPERATIONS: [Operation; 20] = [
+pub static OPERATIONS: [Operation; 21] = [
     input(0x01, Double),
     input(0x02, Whole),
     constant(0x03, Double),
@@ -262,13 +264,17 @@ pub static OPERATIONS: [Operation; 20] = [
         |a, b| Answer::word(short::order::fmax(&BINARY64, a, b)),
         |a, b| Answer::word(short::first_of_equal::fmax(&BINARY64, a, b)),
     )),
-    two(0x22, [Double, Double], Double, refusing(20, ranges::of_remainder,
+    two(0x22, [Double, Double], Double, refusing(20, ranges::of_fmod,
         |a, b| fmod::fmod(&BINARY64, a, b),
         |a, b| short::fmod::fmod(&BINARY64, a, b),
     )),
     two(0x23, [Double, Whole], Double, refusing(21, ranges::of_scaling,
         |a, b| ldexp::ldexp(&BINARY64, a, b as i64),
         |a, b| short::ldexp::ldexp(&BINARY64, a, b as i64),
+    )),
+    two(0x24, [Double, Double], Double, refusing(20, ranges::of_nearest_remainder,
+        |a, b| remainder::remainder(&BINARY64, a, b),
+        |a, b| short::remainder::remainder(&BINARY64, a, b),
     )),
     two(0x30, [Whole, Whole], Whole, refusing(21, ranges::of_ends,
         |a, b| whole::sum(a as i64, b as i64),

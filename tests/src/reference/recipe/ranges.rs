@@ -106,11 +106,9 @@ pub fn of_magnitude(function: &Function, way: Way, a: Range, _: Range) -> Result
 
 /// "M = fmax(fabs b.low, fabs b.high). Low: +0 if a.low ≥ 0, else -fmin(fabs a.low, M). High: +0 if
 /// a.high ≤ 0, else fmin(a.high, M)". Refusal 20: "an infinite end of a, or b holds zero".
-pub fn of_remainder(_: &Function, way: Way, a: Range, b: Range) -> Result<Range, u64> {
-    if is_infinite(a.low) || is_infinite(a.high) || b.holds(way, Kind::Double, PLUS_ZERO) {
-        return Err(20);
-    }
-    let m = fmax(way, BINARY64.fabs(b.low), BINARY64.fabs(b.high));
+pub fn of_fmod(_: &Function, way: Way, a: Range, b: Range) -> Result<Range, u64> {
+    expect_division(way, a, b)?;
+    let m = greatest_magnitude(way, b);
     Ok(Range {
         low: match against_zero(way, a.low) {
             Ordering::Greater | Ordering::Equal => PLUS_ZERO,
@@ -121,6 +119,31 @@ pub fn of_remainder(_: &Function, way: Way, a: Range, b: Range) -> Result<Range,
             Ordering::Greater => fmin(way, a.high, m),
         },
     })
+}
+
+/// W-204: "Let m be the smaller, by fmin, of the greatest magnitudes among the ends of a and of b; its
+/// range is -m to m". Refusal 20 "on the same terms as fmod".
+pub fn of_nearest_remainder(_: &Function, way: Way, a: Range, b: Range) -> Result<Range, u64> {
+    expect_division(way, a, b)?;
+    let [of_a, of_b] = [a, b].map(|range| greatest_magnitude(way, range));
+    let m = fmin(way, of_a, of_b);
+    Ok(Range {
+        low: BINARY64.negate(m),
+        high: m,
+    })
+}
+
+/// Refusal 20: "an infinite end of a, or b holds zero".
+fn expect_division(way: Way, a: Range, b: Range) -> Result<(), u64> {
+    let infinite = is_infinite(a.low) || is_infinite(a.high);
+    match infinite || b.holds(way, Kind::Double, PLUS_ZERO) {
+        true => Err(20),
+        false => Ok(()),
+    }
+}
+
+fn greatest_magnitude(way: Way, range: Range) -> u64 {
+    fmax(way, BINARY64.fabs(range.low), BINARY64.fabs(range.high))
 }
 
 /// The ends of a, each scaled by its power. Refusal 21: "infinite end of a, or either end's scaling
