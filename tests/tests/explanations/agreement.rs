@@ -10,7 +10,7 @@ use estrenwind_tests::reference::recipe::Way;
 /// Seeds that a test goes through, on all cores; each gives `CALLS` calls.
 const SEEDS: u64 = 1_200;
 const EXACT_SEEDS: u64 = 60;
-const CALLS: u64 = 259;
+const CALLS: u64 = 287;
 
 /// The calls of a seed: recipes that pass, recipes of a run, which may or may not, every fault,
 /// every pair of faults, and recipes that are turned down for every set of facts, as they are and

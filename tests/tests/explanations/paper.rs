@@ -49,10 +49,10 @@ fn twice<A: Ends>(opcode: u8, a: A, reason: u64) {
     explains(&[Line::input_of(a), Line::step(opcode, 0, 0)], 0, reason);
 }
 
-/// "01 divisor range holds zero; 02, 03 dividend's low, high end infinite".
+/// "01 divisor range holds zero; 02, 03 dividend's low, high end infinite". "Step 24 shares 01 to 03."
 #[test]
 #[rustfmt::skip]
-fn fmod() {
+fn fmod_and_remainder() {
     for (a, b, reason) in [
         ([-1.0, 1.0],    [-1.0, 2.0],    0x01),
         ([-1.0, 1.0],    [0.0, 2.0],     0x01),
@@ -78,6 +78,7 @@ fn fmod() {
         ([-INF, INF],    [-0.0, MAX],    0x01),
     ] {
         two(0x22, a, b, reason);
+        two(0x24, a, b, reason);
     }
     for (a, reason) in [
         ([-1.0, 1.0],    0x01),
@@ -90,6 +91,7 @@ fn fmod() {
         ([TINY, MAX],    PASSED),
     ] {
         twice(0x22, a, reason);
+        twice(0x24, a, reason);
     }
 }
 
@@ -259,6 +261,7 @@ fn texts_and_their_lines() {
     const WHOLE: &str = "02000080000000000000007fffffffffffffff\n"; // any whole number
     const NEXT: &str = "10000000000000000000000000000000000000\n"; // floor of step 0
     const FMOD: &str = "22000000000000000000000000000000000000\n"; // of step 0 by itself
+    const REMAINDER: &str = "24000000000000000000000000000000000000\n"; // of step 0 by itself
     const LROUND: &str = "18000000000000000000000000000000000000\n"; // of step 0
     const TO_DOUBLE: &str = "32000000000000000000000000000000000000\n"; // of step 0
     const SUM: &str = "30000000000000000000000000000000000000\n"; // of step 0 and itself
@@ -274,6 +277,8 @@ fn texts_and_their_lines() {
         (&format!("{FULL}{LROUND}"), "010004"),
         (&format!("{FULL}{LROUND}{FMOD}"), "010004"),
         (&format!("{FULL}{FMOD}{LROUND}"), "010001"),
+        (&format!("{FULL}{REMAINDER}{FMOD}"), "010001"),
+        (&format!("{FULL}{LROUND}{REMAINDER}"), "010004"),
         (&format!("{FULL}{NEXT}{FMOD}{LROUND}"), "020001"),
         (&format!("{WHOLE}{TO_DOUBLE}{SUM}"), "01000c"),
         (&format!("{WHOLE}{SUM}{TO_DOUBLE}"), "010006"),
@@ -282,6 +287,8 @@ fn texts_and_their_lines() {
         (&format!("{FULL}{floors}187e{:034}\n", 0), "7f7e04"),
         (&format!("{FULL}{floors}22007e{:032}\n", 0), "7f7e01"),
         (&format!("{FULL}{floors}227e00{:032}\n", 0), "7f0001"),
+        (&format!("{FULL}{floors}24007e{:032}\n", 0), "7f7e01"),
+        (&format!("{FULL}{floors}247e00{:032}\n", 0), "7f0001"),
         (&format!("{FULL}{floors}{NEXT}"), "00"),
         // A recipe refused earlier, though a step of it would be refused too.
         ("", "ff0a00"),
@@ -291,7 +298,7 @@ fn texts_and_their_lines() {
         (&format!("{FULL}{floors}{LROUND}{LROUND}"), "ff0a00"),
         (&format!("{FULL}{LROUND}{}", "z".repeat(39)), "ff0b02"),
         (&format!("{FULL}{LROUND}{:038}\n", 0), "ff0c02"),
-        (&format!("{FULL}{LROUND}24{:036}\n", 0), "ff0c02"),
+        (&format!("{FULL}{LROUND}25{:036}\n", 0), "ff0c02"),
         (&format!("{FULL}{LROUND}180001{:032}\n", 0), "ff0d02"),
         (&format!("{FULL}{LROUND}1802{:034}\n", 0), "ff0e02"),
         (&format!("{FULL}{LROUND}1801{:034}\n", 0), "ff0f02"),

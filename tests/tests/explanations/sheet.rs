@@ -27,7 +27,7 @@ fn number(line: &[u8], columns: std::ops::Range<usize>) -> u64 {
 /// The codes of an opcode that a sheet refuses, in order.
 fn codes(opcode: u64) -> RangeInclusive<u64> {
     match opcode {
-        0x22 => 0x01..=0x03,
+        0x22 | 0x24 => 0x01..=0x03,
         0x18 => 0x04..=0x05,
         0x30 | 0x31 => 0x06..=0x07,
         0x23 => 0x08..=0x0b,
@@ -41,9 +41,9 @@ fn is_true(opcode: u64, code: u64, [a_low, a_high]: [u64; 2], [b_low, b_high]: [
     let double = f64::from_bits;
     let whole = |end: u64| end as i64;
     match (opcode, code) {
-        (0x22, 0x01) => double(b_low) <= 0.0 && double(b_high) >= 0.0,
-        (0x22, 0x02) | (0x23, 0x08) => double(a_low).is_infinite(),
-        (0x22, 0x03) | (0x23, 0x09) => double(a_high).is_infinite(),
+        (0x22 | 0x24, 0x01) => double(b_low) <= 0.0 && double(b_high) >= 0.0,
+        (0x22 | 0x24, 0x02) | (0x23, 0x08) => double(a_low).is_infinite(),
+        (0x22 | 0x24, 0x03) | (0x23, 0x09) => double(a_high).is_infinite(),
         (0x18, 0x04) => !fits(double(a_low)),
         (0x18, 0x05) => !fits(double(a_high)),
         (0x30, 0x06) => whole(a_low).checked_add(whole(b_low)).is_none(),

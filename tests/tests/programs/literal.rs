@@ -1,4 +1,4 @@
-//! Files written out, with answers read off document 01 and requests W-202, W-203 and W-205 by hand.
+//! Files written out, with answers read off document 01 and requests W-202 to W-205 by hand.
 
 use crate::{EXPLAIN, OF_RECIPES, RUN, SHEET};
 
@@ -132,6 +132,34 @@ fn marks() {
     SHEET.prints(recipe, &sheet);
 }
 
+/// W-204: an angle from -1000 to 1000 degrees by the nearest turn of 360.
+#[test]
+fn the_nearest_remainder() {
+    let recipe = "010000c08f400000000000408f400000000000\n\
+                  03000040768000000000000000000000000000\n\
+                  24000100000000000000000000000000000000\n";
+    SHEET.prints(
+        recipe,
+        "000100c08f400000000000408f400000000000\n\
+         01010140768000000000004076800000000000\n\
+         020100c0768000000000004076800000000000\n",
+    );
+    EXPLAIN.prints(recipe, "00\n");
+    let (frames, answers): (String, String) = [
+        ("4075e00000000000\n", "01c024000000000000\n"), // 350 -> -10
+        ("4066800000000000\n", "014066800000000000\n"), // 180 is half a turn: n = 0
+        ("4080e00000000000\n", "01c066800000000000\n"), // 540 -> -180, n = 2
+        ("c080e00000000000\n", "014066800000000000\n"), // -540 -> 180, n = -2
+        ("408c200000000000\n", "014066800000000000\n"), // 900 -> 180, n = 2
+        ("4086800000000000\n", "010000000000000000\n"), // 720 -> +0
+        ("c086800000000000\n", "018000000000000000\n"), // -720 -> -0
+        ("7ff0000000000000\n", "ff2000\n"),
+    ]
+    .into_iter()
+    .unzip();
+    RUN.prints(format!("{recipe}\n{frames}"), &answers);
+}
+
 /// "The step, the operand's step and a reason code, two hex digits each, run together. .. A passed
 /// recipe answers 00."
 #[test]
@@ -162,12 +190,17 @@ fn why_a_recipe_is_turned_down() {
     let less = "020000ffdfffffffffffff0000000000000000\n"; // -2^53 - 1 to 0
     let falling = "02000080000000000000000000000000000000\n"; // -2^63 to 0
     let (fmod, ldexp) = (format!("220001{:032}\n", 0), format!("230001{:032}\n", 0));
+    let remainder = format!("240001{:032}\n", 0);
     let (sum, to_double) = (format!("300001{:032}\n", 0), format!("3200{:034}\n", 0));
     for (recipe, line) in [
         (format!("{three}{unit}{fmod}"), "020101\n"),
         (format!("{down}{unit}{fmod}"), "020101\n"),
         (format!("{down}{three}{fmod}"), "020002\n"),
         (format!("{up}{three}{fmod}"), "020003\n"),
+        (format!("{three}{unit}{remainder}"), "020101\n"),
+        (format!("{down}{unit}{remainder}"), "020101\n"),
+        (format!("{down}{three}{remainder}"), "020002\n"),
+        (format!("{up}{three}{remainder}"), "020003\n"),
         (format!("{falling}{falling}{sum}"), "020006\n"),
         (format!("{wholes}{most}{sum}"), "020007\n"),
         (format!("{down}{powers}{ldexp}"), "020008\n"),
@@ -233,16 +266,19 @@ fn a_refused_recipe_gives_one_line() {
         format!("{beyond}\n0000000000000001\n0020000000000001\n"),
         "013ff0000000000000\nff1601\n",
     );
-    let divisor = format!(
-        "0100000000000000000000{}\n220000{:032}\n",
-        "4000000000000000", 0
-    );
-    SHEET.prints(&divisor, "ff1401\n");
-    EXPLAIN.prints(&divisor, "010001\n");
-    RUN.prints(
-        format!("{divisor}\n3ff0000000000000\n0000000000000000\n"),
-        "010000000000000000\nff1401\n",
-    );
+    for opcode in ["22", "24"] {
+        let divisor = format!(
+            "0100000000000000000000{:016x}\n{opcode}0000{:032}\n",
+            2f64.to_bits(),
+            0
+        );
+        SHEET.prints(&divisor, "ff1401\n");
+        EXPLAIN.prints(&divisor, "010001\n");
+        RUN.prints(
+            format!("{divisor}\n3ff0000000000000\n0000000000000000\n"),
+            "010000000000000000\nff1401\n",
+        );
+    }
 }
 
 #[test]

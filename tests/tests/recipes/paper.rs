@@ -1,4 +1,4 @@
-//! What document 01 prints, and what W-202 says of the zeros in fmin and fmax.
+//! What document 01 prints, what W-202 says of the zeros in fmin and fmax, and W-204's step 24.
 
 use estrenwind_tests::library::RunAnswer;
 use estrenwind_tests::recipes::comparison::check;
@@ -87,7 +87,8 @@ fn what_is_turned_down_and_with_which_number() {
         ("00000000000000000000000000000000000000\n", "", refused(12, 0)),
         ("05ff0000000000000000000000000000000000\n", "", refused(12, 0)),                      // 12 before 13, 14
         ("19000000000000000000000000000000000000\n", "", refused(12, 0)),
-        ("24000000000000000000000000000000000000\n", "", refused(12, 0)),
+        ("24000000000000000000000000000000000000\n", "", refused(14, 0)),                      // a step, of itself
+        ("25000000000000000000000000000000000000\n", "", refused(12, 0)),
         ("33000000000000000000000000000000000000\n", "", refused(12, 0)),
         ("10ff0000000000000000010000000000000000\n", "", refused(13, 0)),                      // 13 before 14
         ("10000100000000000000000000000000000000\n", "", refused(13, 0)),
@@ -182,6 +183,58 @@ fn the_zeros_in_fmin_and_fmax() {
         };
         let outcome = check(Way::Exact, &call(&divided, &frame));
         assert_eq!(outcome.answer, answer, "{frame}");
+    }
+}
+
+/// W-204: "Recipe step 24 takes two doubles", and gives x - n·y, n the integer nearest to x/y, halves to
+/// even, "a zero result with x's sign". Refusal 20 "on the same terms as fmod".
+#[test]
+#[rustfmt::skip]
+fn the_nearest_remainder() {
+    const FULL: &str = "010000fff00000000000007ff0000000000000\n"; // any double
+    const WHOLE: &str = "02000080000000000000007fffffffffffffff\n"; // any whole number
+    let text = format!("{FULL}{FULL}240001{:032}\n", 0);
+    for (x, y, answer) in [
+        (7.5,             2.0,           Ok(-0.5)),
+        (-7.5,            2.0,           Ok(0.5)),
+        (7.5,             -2.0,          Ok(-0.5)),
+        (1.0,             2.0,           Ok(1.0)),             // n = 0
+        (3.0,             2.0,           Ok(-1.0)),            // n = 2
+        (5.0,             2.0,           Ok(1.0)),             // n = 2
+        (3f64.next_down(), 2.0,          Ok(1.0 - 2f64.powi(-51))),
+        (-540.0,          360.0,         Ok(180.0)),           // n = -2
+        (1e16,            3.0,           Ok(1.0)),
+        (6.0,             -3.0,          Ok(0.0)),
+        (-6.0,            3.0,           Ok(-0.0)),
+        (-0.0,            3.0,           Ok(-0.0)),
+        (f64::MAX,        f64::INFINITY, Ok(f64::MAX)),
+        (-2.5,            f64::NEG_INFINITY, Ok(-2.5)),
+        (f64::INFINITY,   1.0,           Err(20)),
+        (f64::NEG_INFINITY, f64::INFINITY, Err(20)),
+        (1.0,             0.0,           Err(20)),
+        (0.0,             -0.0,          Err(20)),
+    ] {
+        let frame = format!("{:016x}{:016x}", x.to_bits(), y.to_bits());
+        let outcome = check(Way::Exact, &call(&text, &frame));
+        let answer: Result<f64, u64> = answer;
+        let expected = match answer {
+            Ok(value) => completed(1, value.to_bits()),
+            Err(refusal) => refused(refusal, 2),
+        };
+        assert_eq!(outcome.answer, expected, "{x:e} {y:e}");
+    }
+    for (text, frame, answer) in [
+        (format!("{FULL}240000{:032}\n", 0), "bff0000000000000", completed(1, 1 << 63)),      // of a step by itself
+        (format!("{FULL}240000{:032}\n", 0), "8000000000000000", refused(20, 1)),
+        (format!("{FULL}{WHOLE}240001{:032}\n", 0), "", refused(15, 2)),
+        (format!("{WHOLE}{FULL}240001{:032}\n", 0), "", refused(15, 2)),
+        (format!("{FULL}{FULL}240002{:032}\n", 0), "", refused(14, 2)),
+        (format!("{FULL}{FULL}240200{:032}\n", 0), "", refused(14, 2)),
+        (format!("{FULL}{FULL}240001{:031}1\n", 0), "", refused(13, 2)),
+        (format!("{FULL}{FULL}2400010000000000000001{:016}\n", 0), "", refused(13, 2)),
+    ] {
+        let outcome = check(Way::Exact, &call(&text, frame));
+        assert_eq!(outcome.answer, answer, "{text}{frame}");
     }
 }
 

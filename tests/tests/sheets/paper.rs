@@ -1,4 +1,5 @@
-//! What document 01 prints, with W-203's marks, and what W-202 says of the zeros in fmin and fmax.
+//! What document 01 prints, with W-203's marks, what W-202 says of the zeros in fmin and fmax, and
+//! W-204's step 24.
 
 use crate::BEFORE;
 use estrenwind_tests::library::SheetAnswer;
@@ -84,6 +85,37 @@ fn the_zeros_in_fmin_and_fmax() {
     }
 }
 
+/// An angle from -1000 to 1000 degrees, its floor, a turn, and what is left of both by the nearest
+/// turn.
+const TURN: &str = "\
+010000c08f400000000000408f400000000000
+10000000000000000000000000000000000000
+03000040768000000000000000000000000000
+24000200000000000000000000000000000000
+24010200000000000000000000000000000000
+";
+
+const TURN_SHEET: &str = "\
+000100c08f400000000000408f400000000000
+010101c08f400000000000408f400000000000
+02010140768000000000004076800000000000
+030100c0768000000000004076800000000000
+040101c0768000000000004076800000000000
+";
+
+/// W-204: "Let m be the smaller, by fmin, of the greatest magnitudes among the ends of a and of b; its
+/// range is -m to m, marked when both operands are."
+#[test]
+fn the_nearest_remainder() {
+    let outcome = check(Way::Exact, &call(TURN));
+    assert_eq!(outcome.answer, passed(5));
+    let shown = &outcome.memory[BEFORE..][..TURN_SHEET.len()];
+    assert_eq!(
+        shown.escape_ascii().to_string(),
+        TURN_SHEET.escape_default().to_string()
+    );
+}
+
 /// Each row breaks one rule of "Turning text down" and keeps to all before it, many of them also
 /// break a later one. The answers are read off document 01, not off the reference.
 #[test]
@@ -108,7 +140,8 @@ fn what_is_turned_down_and_with_which_number() {
         ("00000000000000000000000000000000000000\n", refused(12, 0)),
         ("05ff0000000000000000000000000000000000\n", refused(12, 0)),              // 12 before 13, 14
         ("19000000000000000000000000000000000000\n", refused(12, 0)),
-        ("24000000000000000000000000000000000000\n", refused(12, 0)),
+        ("24000000000000000000000000000000000000\n", refused(14, 0)),              // a step, of itself
+        ("25000000000000000000000000000000000000\n", refused(12, 0)),
         ("33000000000000000000000000000000000000\n", refused(12, 0)),
         ("10ff0000000000000000010000000000000000\n", refused(13, 0)),              // 13 before 14
         ("10000100000000000000000000000000000000\n", refused(13, 0)),
@@ -141,6 +174,13 @@ fn what_is_turned_down_and_with_which_number() {
         (&format!("{FULL}1800{:034}\n{full16}", 0), refused(17, 17)),
         (&format!("{FULL}220000{:032}\n", 0), refused(20, 1)),
         (&format!("{SMALL}220000{:032}\n", 0), refused(20, 1)),                    // b holds zero between its ends
+        (&format!("{FULL}240000{:032}\n", 0), refused(20, 1)),
+        (&format!("{SMALL}240000{:032}\n", 0), refused(20, 1)),
+        (&format!("{FULL}0300003ff0000000000000{:016}\n240001{:032}\n", 0, 0), refused(20, 2)), // infinite ends of a
+        (&format!("{SMALL}0300003ff0000000000000{:016}\n240001{:032}\n", 0, 0), passed(3)),
+        (&format!("{WHOLE}{SMALL}240001{:032}\n", 0), refused(15, 2)),
+        (&format!("{SMALL}{WHOLE}240001{:032}\n", 0), refused(15, 2)),
+        (&format!("{SMALL}{SMALL}240001{:031}1\n", 0), refused(13, 2)),
         (&format!("{FULL}1800{:034}\n220000{:032}\n", 0, 0), refused(21, 1)),      // 21 at an earlier step
         (&format!("{FULL}220000{:032}\n1800{:034}\n", 0, 0), refused(20, 1)),      // 20 at one
         (&format!("{WHOLE}3200{:034}\n300000{:032}\n", 0, 0), refused(22, 1)),     // 22 at one

@@ -277,20 +277,79 @@ fn fmod() {
         ([-MAX, MAX],    [-INF, -1.0],   Ok([-MAX, MAX])),
         ([-MAX, MAX],    [TINY, TINY],   Ok([-TINY, TINY])),
         ([-MAX, MAX],    [-TINY, -TINY], Ok([-TINY, TINY])),
-        ([-1.0, 1.0],    [-1.0, 2.0],    Err(20)),
-        ([-1.0, 1.0],    [0.0, 2.0],     Err(20)),
-        ([-1.0, 1.0],    [-0.0, 2.0],    Err(20)),
-        ([-1.0, 1.0],    [-2.0, 0.0],    Err(20)),
-        ([-1.0, 1.0],    [-2.0, -0.0],   Err(20)),
-        ([-1.0, 1.0],    [-0.0, -0.0],   Err(20)),
-        ([-1.0, 1.0],    [-TINY, TINY],  Err(20)),
-        ([-1.0, 1.0],    [-INF, INF],    Err(20)),
-        ([-1.0, INF],    [1.0, 2.0],     Err(20)),
-        ([-INF, 1.0],    [1.0, 2.0],     Err(20)),
-        ([INF, INF],     [1.0, 2.0],     Err(20)),
-        ([-INF, -INF],   [INF, INF],     Err(20)),
     ] {
         two(0x22, a, b, expected);
+    }
+    for &(a, b) in NO_DIVISION {
+        two(0x22, a, b, Err::<[f64; 2], u64>(20));
+    }
+}
+
+/// Refusal 20, "sheet, an infinite end of a, or b holds zero", of fmod and "on the same terms" of
+/// remainder (W-204).
+#[rustfmt::skip]
+pub const NO_DIVISION: &[([f64; 2], [f64; 2])] = &[
+    ([-1.0, 1.0],    [-1.0, 2.0]),
+    ([-1.0, 1.0],    [0.0, 2.0]),
+    ([-1.0, 1.0],    [-0.0, 2.0]),
+    ([-1.0, 1.0],    [-2.0, 0.0]),
+    ([-1.0, 1.0],    [-2.0, -0.0]),
+    ([-1.0, 1.0],    [-0.0, -0.0]),
+    ([-1.0, 1.0],    [-TINY, TINY]),
+    ([-1.0, 1.0],    [-INF, INF]),
+    ([-1.0, INF],    [1.0, 2.0]),
+    ([-INF, 1.0],    [1.0, 2.0]),
+    ([INF, INF],     [1.0, 2.0]),
+    ([-INF, -INF],   [INF, INF]),
+];
+
+/// Ranges of a and b, and the m of W-204's "-m to m": "the smaller, by fmin, of the greatest magnitudes
+/// among the ends of a and of b".
+#[rustfmt::skip]
+pub const REMAINDER: &[([f64; 2], [f64; 2], f64)] = &[
+    // b's is the smaller, of either end.
+    ([-7.5, 7.5],    [1.0, 2.0],     2.0),
+    ([-7.5, 7.5],    [-2.0, -1.0],   2.0),
+    ([-7.5, 7.5],    [-3.0, -3.0],   3.0),
+    ([-7.5, 1.5],    [2.0, 3.0],     3.0),
+    ([-1.5, 7.5],    [2.0, 3.0],     3.0),
+    ([-MAX, MAX],    [TINY, TINY],   TINY),
+    ([-MAX, MAX],    [-TINY, -TINY], TINY),
+    // a's is, of either end.
+    ([-1.5, 1.0],    [2.0, 3.0],     1.5),
+    ([-1.0, 1.5],    [2.0, 3.0],     1.5),
+    ([-1.5, 1.0],    [1.0, 2.0],     1.5),
+    ([TINY, TINY],   [-MAX, -MAX],   TINY),
+    // Both are one number.
+    ([-2.0, 1.0],    [2.0, 2.0],     2.0),
+    ([2.0, 2.0],     [-2.0, -1.0],   2.0),
+    // What is left may be on the other side of zero than a.
+    ([4.0, 7.5],     [2.0, 3.0],     3.0),
+    ([-7.5, -4.0],   [2.0, 3.0],     3.0),
+    ([1.0, 1.25],    [2.0, 3.0],     1.25),
+    ([-1.25, -1.0],  [2.0, 3.0],     1.25),
+    ([-0.0, 1.0],    [2.0, 3.0],     1.0),
+    ([-1.0, 0.0],    [2.0, 3.0],     1.0),
+    // Of a zero, whatever its sign, from -0 to +0.
+    ([0.0, 0.0],     [2.0, 3.0],     0.0),
+    ([-0.0, -0.0],   [2.0, 3.0],     0.0),
+    ([0.0, -0.0],    [-3.0, -2.0],   0.0),
+    ([-0.0, 0.0],    [INF, INF],     0.0),
+    // b may be infinite.
+    ([-1.0, 1.0],    [INF, INF],     1.0),
+    ([-1.0, 1.0],    [-INF, -INF],   1.0),
+    ([-MAX, MAX],    [-INF, -1.0],   MAX),
+    ([-MAX, 1.0],    [TINY, INF],    MAX),
+];
+
+/// The low end is m negated, so of +0 it is -0.
+#[test]
+fn remainder() {
+    for &(a, b, m) in REMAINDER {
+        two(0x24, a, b, Ok([-m, m]));
+    }
+    for &(a, b) in NO_DIVISION {
+        two(0x24, a, b, Err::<[f64; 2], u64>(20));
     }
 }
 

@@ -76,11 +76,11 @@ fn keepers_keep_what_is_there() {
     }
 }
 
-/// One kind of step alone, 127 times: fabs, negate, and fmin, fmax and fmod by a number.
+/// One kind of step alone, 127 times: fabs, negate, and fmin, fmax, fmod and remainder by a number.
 #[test]
 fn one_keeper_again_and_again() {
     for (start, mark) in [(3.0, true), (-3.0, true), (2.5, false), (-2.5, false)] {
-        for opcode in [0x16, 0x17, 0x20, 0x21, 0x22] {
+        for opcode in [0x16, 0x17, 0x20, 0x21, 0x22, 0x24] {
             let mut lines = vec![double(start), double(5.0), Line::step(0x17, 0, 0)];
             while lines.len() < MOST_STEPS {
                 let last = lines.len() - 1;

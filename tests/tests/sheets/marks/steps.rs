@@ -183,6 +183,18 @@ const ROWS: &[Row] = &[
     (0x22, ROUNDED,        INFINITE,       NO,  "A alone, and always itself"),
     (0x22, ROUNDED,        HALF,           NO,  "A alone"),
     (0x22, ZEROS,          HALF,           NO,  "A alone, and always zero"),
+    // W-204: "marked when both operands are"
+    (0x24, ROUNDED,        ONE_TO_EIGHT,   YES, "both"),
+    (0x24, ROUNDED,        HALF_TO_EIGHT,  NO,  "A alone"),
+    (0x24, FRACTIONS,      ONE_TO_EIGHT,   NO,  "B alone"),
+    (0x24, FRACTIONS,      HALF_TO_EIGHT,  NO,  "neither"),
+    (0x24, LARGEST,        THREE,          YES, "both"),
+    (0x24, ONE_TO_EIGHT,   ONE_TO_EIGHT,   YES, "both, one step"),
+    (0x24, HALF_TO_EIGHT,  HALF_TO_EIGHT,  NO,  "neither, one step"),
+    (0x24, ZEROS,          THREE,          YES, "both, and always zero"),
+    (0x24, ROUNDED,        INFINITE,       NO,  "A alone, and always itself"),
+    (0x24, ROUNDED,        HALF,           NO,  "A alone"),
+    (0x24, ZEROS,          HALF,           NO,  "A alone, and always zero"),
     // "all others lack it": ldexp
     (0x23, FRACTIONS,      POWERS,         NO,  "23 lacks it"),
     (0x23, ROUNDED,        POWERS,         NO,  "23 lacks it, though no power is below 0"),
@@ -227,7 +239,7 @@ fn no_row_is_left_out() {
             _ => &[false, true],
         };
         assert!(met.iter().eq(expected), "{opcode:02x}: {met:?}");
-        if (0x20..=0x22).contains(&opcode) {
+        if [0x20, 0x21, 0x22, 0x24].contains(&opcode) {
             let pairs: BTreeSet<[bool; 2]> = rows
                 .map(|&(_, a, b, ..)| [operands[a], operands[b]])
                 .collect();

@@ -85,6 +85,18 @@ fn recipes() -> Vec<(&'static str, Vec<Line>)> {
             "22: of a zero it is a zero",
             vec![double(-0.0), Line::input_of([0.5, 2.5]), step(0x22, 0, 1)],
         ),
+        (
+            "24: by an infinity it is the number itself",
+            vec![inputs, rounded, double(-INF), step(0x24, 1, 2)],
+        ),
+        (
+            "24: of a zero it is a zero",
+            vec![double(-0.0), Line::input_of([0.5, 2.5]), step(0x24, 0, 1)],
+        ),
+        (
+            "24: by a half an integer leaves a zero",
+            vec![inputs, rounded, double(0.5), step(0x24, 1, 2)],
+        ),
         ("01: from 2^52 to 2^53 all are integers", vec![integers]),
         (
             "01: the two largest",

@@ -56,7 +56,13 @@ impl Step {
         self.b.is_some_and(|b| b.mark)
     }
 
-    /// W-203's mark, by the operands' marks that are given.
+    /// Whether B is one infinity.
+    fn b_is_infinite(&self) -> bool {
+        let infinite = |b: Shown| f64::from_bits(b.low).is_infinite() && b.low == b.high;
+        self.b.is_some_and(infinite)
+    }
+
+    /// The papers' mark, by the operands' marks that are given.
     fn right(&self) -> bool {
         let operation = Operation::of_opcode(self.opcode).expect("an opcode");
         let Shown { low, high, .. } = self.shown;
@@ -68,7 +74,7 @@ impl Step {
 /// Steps that a wrong rule marks, besides those that W-203's does.
 type Also = fn(&Step) -> bool;
 
-const REFUTED: [(&str, Also); 24] = [
+const REFUTED: [(&str, Also); 26] = [
     ("an input with integral ends", |s| {
         s.is(0x01) && s.has_integral_ends()
     }),
@@ -108,11 +114,13 @@ const REFUTED: [(&str, Also); 24] = [
     ("23 with integral ends", |s| {
         s.is(0x23) && s.has_integral_ends()
     }),
+    ("24 when A is", |s| s.is(0x24) && s.a_is_marked()),
+    ("24 when B is", |s| s.is(0x24) && s.b_is_marked()),
     ("every step with integral ends", |s| s.has_integral_ends()),
 ];
 
 /// Marked besides, and never broken.
-const UNREFUTED: [(&str, Also); 4] = [
+const UNREFUTED: [(&str, Also); 5] = [
     ("15 keeps A's", |s| s.is(0x15) && s.a_is_marked()),
     ("23 keeps A's where no power is below 0", |s| {
         s.is(0x23) && s.a_is_marked() && s.b.is_some_and(|b| b.low as i64 >= 0)
@@ -122,8 +130,10 @@ const UNREFUTED: [(&str, Also); 4] = [
         s.is(0x20) && s.a_is_marked() && s.a.zip(s.b).is_some_and(|(a, b)| above([a, b]))
     }),
     ("22 when A is and B is infinite", |s| {
-        let infinite = |b: Shown| f64::from_bits(b.low).is_infinite() && b.low == b.high;
-        s.is(0x22) && s.a_is_marked() && s.b.is_some_and(infinite)
+        s.is(0x22) && s.a_is_marked() && s.b_is_infinite()
+    }),
+    ("24 when A is and B is infinite", |s| {
+        s.is(0x24) && s.a_is_marked() && s.b_is_infinite()
     }),
 ];
 
