@@ -58,7 +58,7 @@ fn on_hundreds_of_thousands_of_calls_by_the_short_form() {
 }
 
 #[test]
-fn on_fifteen_thousand_calls_by_the_authority() {
+fn on_seventeen_thousand_calls_by_the_authority() {
     let counts = compare(Way::Exact, SEEDS..SEEDS + EXACT_SEEDS, calls);
     assert_eq!(counts.calls, EXACT_SEEDS * CALLS);
 }

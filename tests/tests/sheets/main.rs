@@ -11,6 +11,7 @@ mod memory;
 mod paper;
 mod promise;
 mod ranges;
+mod wrong_ranges;
 
 use estrenwind_tests::recipes::comparison::Outcome;
 use estrenwind_tests::recipes::shown::{self, Shown};
