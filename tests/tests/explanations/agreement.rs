@@ -8,8 +8,8 @@ use estrenwind_tests::recipes::ExplainCall;
 use estrenwind_tests::reference::recipe::Way;
 
 /// Seeds that a test goes through, on all cores; each gives `CALLS` calls.
-const SEEDS: u64 = 1_200;
-const EXACT_SEEDS: u64 = 60;
+const SEEDS: u64 = 1_100;
+const EXACT_SEEDS: u64 = 56;
 const CALLS: u64 = 287;
 
 /// The calls of a seed: recipes that pass, recipes of a run, which may or may not, every fault,
@@ -58,7 +58,7 @@ fn on_hundreds_of_thousands_of_calls_by_the_short_form() {
 }
 
 #[test]
-fn on_seventeen_thousand_calls_by_the_authority() {
+fn on_sixteen_thousand_calls_by_the_authority() {
     let counts = compare(Way::Exact, SEEDS..SEEDS + EXACT_SEEDS, calls);
     assert_eq!(counts.calls, EXACT_SEEDS * CALLS);
 }

@@ -12,7 +12,7 @@ use estrenwind_tests::reference::recipe::{sheet, text};
 use std::collections::BTreeMap;
 use std::ops::RangeInclusive;
 
-const SEEDS: u64 = 400;
+const SEEDS: u64 = 370;
 
 const RECIPE_LINE: usize = text::LINE;
 /// Enough for every sheet.
