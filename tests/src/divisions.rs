@@ -18,7 +18,7 @@ pub fn edges(format: &Format) -> Vec<[u64; 2]> {
             let x = at_most(format, &half);
             for x in [x.saturating_sub(1), x, (x + 1).min(format.infinity() - 1)] {
                 for [x_sign, y_sign] in [[0, 0], [0, 1], [1, 0], [1, 1]] {
-                    let signed = |pattern, sign: u64| pattern | sign * format.sign_bit();
+                    let signed = |pattern, sign: u64| pattern | (sign * format.sign_bit());
                     edges.push([signed(x, x_sign), signed(y, y_sign)]);
                 }
             }
@@ -63,7 +63,7 @@ impl Random {
             _ => self.small_quotient(format),
         };
         let signs = self.word();
-        let signed = |pattern, bit: u32| pattern | (signs >> bit & 1) * format.sign_bit();
+        let signed = |pattern, bit: u32| pattern | ((signs >> bit & 1) * format.sign_bit());
         [signed(x, 0), signed(y, 1)]
     }
 
@@ -120,9 +120,9 @@ impl Random {
         }
     }
 
-    /// Any distance of exponents, and still x leaves of y nothing, the least that there can be on
-    /// either side, or the nearest to a half on either side; or anything. Found from what it leaves:
-    /// by an odd b, a·2^k leaves r where a leaves r·2^-k, and 2^-1 is (b + 1)/2.
+    /// Exponents at any distance, and what is left of x by y is nothing, the least that there can be,
+    /// or the nearest to half of y that there is, on either side; or anything. Found backwards: by an
+    /// odd b, a·2^k leaves r where a leaves r·2^-k, and 2^-1 is (b + 1)/2.
     fn chosen_residue(&mut self, format: &Format) -> [u64; 2] {
         let all_digits = format.fraction_bits + 1;
         let of_divisor = match self.below(2) {
@@ -152,7 +152,7 @@ impl Random {
         [pack(format, a, places + apart), pack(format, b, places)]
     }
 
-    /// x below two times y, where n is 0 or 1 but for the last half: exponents no more than two apart.
+    /// Exponents no more than two apart, y's mostly the larger: n is 0, 1 or 2.
     fn small_quotient(&mut self, format: &Format) -> [u64; 2] {
         let largest = format.largest_exponent_field();
         let field = match self.below(4) {
@@ -383,7 +383,7 @@ fn from_half(format: &Format, y: u64, rest: u64) -> Distance {
     let (b, of_y) = split(format, y);
     let (r, of_rest) = split(format, rest);
     match of_y - of_rest {
-        places @ 0..=2 => Distance(2 * b - (4 * r >> places)),
+        places @ 0..=2 => Distance(2 * b - ((4 * r) >> places)),
         _ => Distance(u64::MAX),
     }
 }

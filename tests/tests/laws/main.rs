@@ -41,7 +41,7 @@ fn cases(name: &str, format: &Format) -> Vec<[u64; 2]> {
     let mut cases = operands.edges(format);
     cases.extend((0..2_000_000).map(|_| operands.random(format, &mut random)));
     let is_nan = |x: u64| format.classify(x) == Class::Nan;
-    cases.retain(|&[x, y]| !is_nan(x) && !(operands.is_two_patterns() && is_nan(y)));
+    cases.retain(|&[x, y]| !(is_nan(x) || operands.is_two_patterns() && is_nan(y)));
     cases
 }
 
