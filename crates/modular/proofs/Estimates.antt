@@ -1,7 +1,7 @@
 -- The estimate of x * y / d by leading bits is right, or one too small. X is x cut below 2^25, high is X * y cut below 2^28, top is d cut below 2^24
 -- and one more; the reciprocal of top is in units of 2^-63, so that the quotient comes in units of 2^34. What all these leave out is less than d.
 -- Assumes nothing.
-use mathlib.Core.Path.{_≡_, ap}
+use mathlib.Core.Path.{ap}
 use mathlib.Core.Logic.{⊎-elim}
 use Prim.Native.Nat.{ℕ, _+_, _*_, _/_, _^_, _≤_, _<_}
 use native.Mathlib.Nat.{div-mul-le-self, lt-div-mul-add, mul-le-mul-left, mul-le-mul-right, mul-le-mul}

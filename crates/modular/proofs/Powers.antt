@@ -8,7 +8,7 @@ use lib.Pow.{pow-pos, pow-mono, pow-add, shr-shr}
 use Rattle.float_format.proofs.Parts.{mod-scale}
 use Rattle.float_format.proofs.Units.{lt-or-ge}
 use Rattle.remainder.proofs.Turn.{rem-rem}
-use Rattle.modular.specs.Modulus.{Modulus, topOf}
+use Rattle.modular.specs.Modulus.{Modulus}
 use Rattle.modular.proofs.Residues.{products}
 
 -- ---- the digits of n
@@ -53,9 +53,6 @@ module _ (w k : ℕ) (some : 0 < w) (few : w < 2 ^ 53) (from : 2 ^ 55 ≤ w * 2 
   -- nothing is shifted out
   pub brought-whole : w * 2 ^ k % 2 ^ 64 ≡ w * 2 ^ k
   brought-whole = mod-eq-of-lt (omega arith)
-
-  pub modulus : (inverse : ℕ) → inverse ≡ 2 ^ 63 / topOf (w * 2 ^ k) → Modulus (w * 2 ^ k) inverse
-  modulus inverse e = record { from = from; below = below; reciprocal = e }
 
   -- r is the residue of m * 2^(n + k - 3), p that of the power alone
   pub taken-back : (m n p r : ℕ) → p ≡ 2 ^ (n + k - 3) % (w * 2 ^ k) → r ≡ m * p % (w * 2 ^ k) → r / 2 ^ (k - 3) ≡ m * 2 ^ n % (8 * w)

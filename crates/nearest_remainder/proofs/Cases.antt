@@ -1,13 +1,12 @@
 -- remainder and remquo's quotient by the classes of their operands. Where nothing is divided, remainder is fmod and the quotient is 0. Over every
 -- format. Assumes nothing.
-use mathlib.Core.Path.{_≡_, refl, sym, ap, _∙_}
+use mathlib.Core.Path.{_≡_, refl, sym, _∙_}
 use mathlib.Core.Bool.{Bool, true, false, _||_, cond}
-use mathlib.Core.Logic.{_⊎_, inl, inr, ⊎-elim}
+use mathlib.Core.Logic.{_⊎_, ⊎-elim}
 use Prim.Native.Nat.{ℕ, _%_, _≤_, _<_}
 use native.Mathlib.Omega.{arith}
 use native.Mathlib.Nat.{eq-zero-or-pos}
-use lib.Dec.{leb, eqb}
-use lib.IntN.{ℤ, pos}
+use lib.IntN.{pos}
 use lib.Ieee.{unlike}
 use borrow.Author.Tests.{ne-eqb, lt-leb}
 use Rattle.float_format.specs.Format.{Format, infinity, negative, unsigned, isNan, isInfinite}

@@ -1,17 +1,17 @@
 -- The nearest quotient from a cut division: by the half of the divisor and the quotient's last digit it goes on, or not; then the rest, or what it lacks
 -- to the divisor, is left, and the sign turns or not. q, r, w and j are the code's quotient, rest, divisor and scale. Over every format. Assumes nothing.
 use mathlib.Core.Path.{_≡_, refl, sym, ap, ap₂, _∙_}
-use mathlib.Core.Bool.{Bool, true, false, not, _&&_, _||_, cond}
+use mathlib.Core.Bool.{Bool, true, false, not, cond}
 use mathlib.Core.Logic.{⊎-elim}
-use Prim.Native.Nat.{ℕ, _+_, _-_, _*_, _/_, _%_, _^_, _≤_, _<_}
-use native.Mathlib.Nat.{div-add-mod', mod-lt, mul-lt-mul-of-pos-right, mul-le-mul-right, mul-comm, mul-sub}
+use Prim.Native.Nat.{ℕ, _+_, _-_, _*_, _/_, _%_, _^_, _<_}
+use native.Mathlib.Nat.{div-add-mod', mod-lt, mul-le-mul-right, mul-comm, mul-sub}
 use native.Mathlib.Omega.{arith}
-use lib.Dec.{ltb, eqb}
+use lib.Dec.{ltb}
 use lib.Pow.{pow-pos}
 use borrow.Author.Tests.{eq-eqb, ne-eqb, lt-ltb, le-ltb, ltb-true, ltb-false}
 use Rattle.float_format.specs.Format.{Format, signBit, negative, signed}
 use Rattle.float_format.specs.Number.{magnitude, encode, distance}
-use Rattle.float_format.specs.Rounding.{goesAway, parts}
+use Rattle.float_format.specs.Rounding.{goesAway}
 use Rattle.float_format.specs.declared.Direction.the-variants.{HalfEven}
 use Rattle.float_format.proofs.Units.{lt-or-ge, three-way}
 use Rattle.float_format.proofs.Parts.{goes-scale, parts-at}

@@ -3,13 +3,13 @@
 -- in y; fmod differs from it by y at most; remquo's quotient is n modulo 8; of whole numbers it is whole. Then infinite y, NaNs and refusal 2. Units are
 -- those of `float_format`: a finite number is its sign and its units, exactly. Over every format. Assumes nothing.
 use mathlib.Core.Path.{_≡_, refl, sym, ap, ap₂, _∙_}
-use mathlib.Core.Bool.{Bool, true, false, not, _||_, cond}
-use mathlib.Core.Logic.{_⊎_, inl, inr, ⊎-elim}
+use mathlib.Core.Bool.{Bool, true, false, not, cond}
+use mathlib.Core.Logic.{_⊎_, ⊎-elim}
 use Prim.Native.Nat.{ℕ, _+_, _-_, _*_, _/_, _%_, _≤_, _<_}
 use native.Mathlib.Nat.{div-add-mod', mul-assoc, mul-add-mod-self-right, mul-mod-left, mul-le-mul-right, le-antisymm}
 use native.Mathlib.Omega.{arith}
-use lib.Dec.{leb, ltb, eqb}
-use lib.IntN.{ℤ, pos}
+use lib.Dec.{ltb}
+use lib.IntN.{pos}
 use lib.Ieee.{unlike}
 use borrow.Author.Tests.{lt-ltb, le-ltb, ltb-true, le-leb, lt-leb}
 use Rattle.float_format.specs.Format.{Format, Valid, signBit, infinity, defaultNan, negative, unsigned, signed, negated, isNan, isInfinite, isZero, quieted}
@@ -20,7 +20,7 @@ use Rattle.float_format.proofs.Units.{lt-or-ge, three-way, magnitude-mono, magn
 use Rattle.float_format.proofs.Patterns.{negative-signed, unsigned-signed, signed-lt, signed-parts}
 use Rattle.float_format.proofs.Order.{magnitude-zero, infinity-below-sign, above-at, under-at, negative-negated, unsigned-negated, negated-is}
 use Rattle.float_format.proofs.Integers.{integer-units}
-use Rattle.remainder.specs.Remainder.{fmod, fmodRefusal, noRemainder}
+use Rattle.remainder.specs.Remainder.{fmod, fmodRefusal}
 use Rattle.remainder.specs.Shape.{isSpecial}
 use Rattle.remainder.proofs.Cases.{different, either}
 use Rattle.remainder.proofs.Laws.{Operands, fmod-sign, fmod-below, fmod-exact, fmod-infinity, fmod-refuses, fmod-refused, fmod-lt}

@@ -3,11 +3,11 @@
 -- which one is odd. Plain arithmetic; no format here. Assumes nothing.
 use mathlib.Core.Path.{_≡_, ap}
 use mathlib.Core.Bool.{false}
-use mathlib.Core.Logic.{_⊎_, inl, inr, ⊎-elim}
-use Prim.Native.Nat.{ℕ, suc, _+_, _*_, _%_, _≤_, _<_}
+use mathlib.Core.Logic.{_⊎_, ⊎-elim}
+use Prim.Native.Nat.{ℕ, _+_, _*_, _%_, _≤_, _<_}
 use native.Mathlib.Omega.{arith}
 use Rattle.float_format.specs.Number.{distance}
-use Rattle.float_format.proofs.Units.{lt-or-ge, three-way}
+use Rattle.float_format.proofs.Units.{three-way}
 use Rattle.float_format.proofs.Bounds.{Near, Nearer, half-even-near, step}
 use Rattle.nearest_remainder.specs.Nearest.{nearestQuotient}
 

@@ -1,16 +1,12 @@
--- The quotient's sign: two patterns have two signs where the zeros of their signs differ, and a number below 8 is negated in a word of 32 bits. Assumes
--- nothing.
-use mathlib.Core.Path.{_≡_, refl, ap, _∙_}
+-- The quotient's sign: two patterns have two signs where the zeros of their signs differ. Assumes nothing.
+use mathlib.Core.Path.{_≡_, refl, _∙_}
 use mathlib.Core.Bool.{Bool, true, false, not}
-use Prim.Native.Nat.{ℕ, zero, suc, _+_, _-_, _*_, _%_, _<_}
+use Prim.Native.Nat.{ℕ, _+_, _-_, _*_, _%_, _<_}
 use native.Mathlib.Omega.{arith}
 use lib.Dec.{eqb}
 use lib.Ieee.{unlike}
-use lib.IntN.{ℤ, pos, negℤ, _-ℤ_, +ℤ-idl}
+use lib.IntN.{pos}
 use lib.Pow.{pow-pos}
-use mir.Syntax.{w32}
-use mir.Val.{toZ, SFits}
-use mir.ValLaws.{toZ-pos}
 use borrow.Author.Tests.{eq-eqb, ne-eqb}
 use Rattle.float_format.specs.Format.{Format, signBit, negative, signed}
 use Rattle.float_format.specs.Rounding.{withSign}
@@ -25,13 +21,6 @@ zeros-unlike f x y v w hx hy ev ew = pick (negative f x) (negative f y) (ev ∙ 
     pick true false e g = simp (ne-eqb v w (omega (arith, pow-pos (f .exponent + f .fraction))))
     pick false true e g = simp (ne-eqb v w (omega (arith, pow-pos (f .exponent + f .fraction))))
     pick false false e g = simp (eq-eqb v w (omega arith))
-
-pub minus-is : (n : ℕ) → n < 8 → pos 0 -ℤ toZ w32 n ≡ negℤ (pos n)
-minus-is n h = ap (λ (z : ℤ). pos 0 -ℤ z) (toZ-pos w32 n (omega arith)) ∙ +ℤ-idl (negℤ (pos n))
-
-pub minus-fits : (n : ℕ) → n < 8 → SFits w32 (negℤ (pos n))
-minus-fits zero h = record { sfits = omega arith }
-minus-fits (suc n) h = record { sfits = omega arith }
 
 -- 0 has no sign
 pub no-sign : (s : Bool) → withSign s 0 ≡ pos 0

@@ -1,6 +1,6 @@
 -- What the pieces of remainder and remquo cite: a division of two magnitudes, in units of a scale that both have. Definitions only; assumes nothing.
 use mathlib.Core.Path.{_≡_}
-use Prim.Native.Nat.{ℕ, _+_, _-_, _*_, _/_, _%_, _^_, _≤_, _<_}
+use Prim.Native.Nat.{ℕ, _-_, _*_, _/_, _%_, _^_, _≤_, _<_}
 use lib.Ieee.{unlike}
 use Rattle.float_format.specs.Format.{Format, signBit, topField, infinity, negative, exponentField}
 use Rattle.float_format.specs.Number.{magnitude}

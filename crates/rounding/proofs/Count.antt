@@ -3,15 +3,12 @@
 use mathlib.Core.Path.{_≡_, refl, sym, ap, _∙_}
 use mathlib.Core.Bool.{Bool, true, false, not, cond}
 use mathlib.Core.Logic.{⊎-elim}
-use Prim.Native.Nat.{ℕ, zero, suc, _+_, _-_, _*_, _/_, _%_, _^_, _≤_, _<_}
+use Prim.Native.Nat.{ℕ, suc, _+_, _-_, _*_, _/_, _%_, _^_, _≤_, _<_}
 use native.Mathlib.Nat.{mod-lt, mod-eq-of-lt, mul-div-mul-right, mul-assoc, mul-comm, div-eq-of-lt, div-le-self, mul-le-mul-right, mul-lt-mul-of-pos-right, le-trans, pow-suc}
 use native.Mathlib.Omega.{arith}
 use lib.Dec.{eqb}
-use lib.IntN.{ℤ, pos, negℤ, _-ℤ_, +ℤ-idl}
+use lib.IntN.{ℤ, pos, negℤ}
 use lib.Pow.{pow-pos, pow-mono, pow-add, mod-mod-pow}
-use mir.Syntax.{w64}
-use mir.Val.{toZ, SFits}
-use mir.ValLaws.{toZ-pos}
 use borrow.Author.Tests.{lt-ltb, le-ltb, le-leb, lt-leb, eq-eqb, ne-eqb}
 use Rattle.float_format.specs.Format.{Format, signBit, topField, infinity, exponentField, negative, unsigned, isNan, isInfinite}
 use Rattle.float_format.specs.Number.{magnitude, bias, one}
@@ -244,12 +241,3 @@ limit-lt f w = go (sizes f (w .word))
   where
     go : Sizes f → bias f * 2 ^ f .fraction + 63 * 2 ^ f .fraction < 2 ^ 63
     go z = omega (arith, mul-lt-mul-of-pos-right (w .reach) (pow-pos (f .fraction)), z .room .top, z .sign-le, pow-pos (f .fraction))
-
--- ---- a magnitude with its sign, in a word
-
-pub minus-is : (n : ℕ) → n < 2 ^ 63 → pos 0 -ℤ toZ w64 n ≡ negℤ (pos n)
-minus-is n h = ap (λ (z : ℤ). pos 0 -ℤ z) (toZ-pos w64 n h) ∙ +ℤ-idl (negℤ (pos n))
-
-pub minus-fits : (n : ℕ) → n < 2 ^ 63 → SFits w64 (negℤ (pos n))
-minus-fits zero h = record { sfits = omega arith }
-minus-fits (suc n) h = record { sfits = omega arith }

@@ -1,2 +1,3 @@
 -- Laws of signed numbers and their words.
+pub mod Minus
 pub mod Signs

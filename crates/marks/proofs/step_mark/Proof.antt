@@ -1,9 +1,8 @@
 -- `step_mark` meets its contract: its tests are those of the rule, in the rule's order. Assumes nothing.
 use mathlib.Core.Path.{_≡_, sym, ap, _∙_}
-use mathlib.Core.Bool.{Bool, true, false, not, _||_}
+use mathlib.Core.Bool.{Bool, false, not, _||_}
 use lib.Dec.{eqb}
 use Rattle.recipe.specs.Table.{within}
-use Rattle.semantics.specs.Range.{infiniteEnd}
 use Rattle.semantics.specs.Mark.{isWhole}
 use Rattle.ranges.specs.Seen.{seenRange}
 use Rattle.marks.proofs.Rule.{marked-always, marked-number, marked-rounding, marked-first, marked-both, marked-never}

@@ -1,7 +1,6 @@
 -- `appended` meets its contract. Assumes nothing.
 use mathlib.Core.Path.{ap, _∙_}
 use Prim.Native.Nat.{ℕ, _-_}
-use native.Mathlib.Omega.{arith}
 use Rattle.modular.proofs.Residues.{none-off, one-off, moved-whole, moved-lt}
 use borrow.Author.Needs.{needs}
 use Rattle.modular.proofs.appended.Statement.{statement}

@@ -1,10 +1,10 @@
 -- `scaled_remainder` meets its contract: the divisor is brought to 2^55, and what is left by it is taken back down. Assumes nothing.
 use mathlib.Core.Path.{_≡_, refl, ap, _∙_}
-use Prim.Native.Nat.{ℕ, _+_, _-_, _*_, _/_, _%_, _^_, _≤_, _<_}
+use Prim.Native.Nat.{ℕ, _+_, _-_, _*_, _/_, _%_, _^_, _≤_}
 use native.Mathlib.Nat.{mod-lt}
 use native.Mathlib.Omega.{arith}
 use Rattle.modular.specs.Modulus.{Modulus}
-use Rattle.modular.proofs.Powers.{three-below, brought-whole, modulus, taken-back}
+use Rattle.modular.proofs.Powers.{three-below, brought-whole, taken-back}
 use Rattle.modular.proofs.scaled_remainder.Statement.{statement}
 use Rattle.modular.proofs.scaled_remainder.Tie as tie
 

@@ -1,5 +1,4 @@
 -- `at_scale` meets its contract: both are split into a scale and a significand. Assumes nothing.
-use mathlib.Core.Path.{_≡_}
 use Prim.Native.Nat.{_≤_}
 use native.Mathlib.Omega.{arith}
 use Rattle.float_format.specs.Format.{Format}

@@ -1,6 +1,6 @@
 -- `cut_division` meets its contract. Assumes nothing.
 use mathlib.Core.Path.{ap, _∙_}
-use Prim.Native.Nat.{ℕ, _*_, _%_, _/_, _^_, _<_}
+use Prim.Native.Nat.{ℕ, _*_, _%_, _/_, _^_}
 use native.Mathlib.Nat.{mod-lt}
 use native.Mathlib.Omega.{arith}
 use lib.Pow.{pow-mono}

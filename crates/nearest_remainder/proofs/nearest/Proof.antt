@@ -7,7 +7,7 @@ use lib.Dec.{ltb}
 use lib.Ieee.{unlike}
 use lib.Pow.{pow-mono}
 use Rattle.float_format.specs.Format.{Format, signBit, negative, unsigned}
-use Rattle.float_format.specs.Number.{magnitude, encode, unitsOf}
+use Rattle.float_format.specs.Number.{encode, unitsOf}
 use Rattle.float_format.specs.Rounding.{withSign}
 use Rattle.float_format.specs.Width.{format}
 use Rattle.float_format.proofs.Order.{magnitude-zero}

@@ -1,5 +1,4 @@
 -- `normal_significand` meets its contract. Assumes nothing.
-use Prim.Native.Nat.{_%_, _^_}
 use native.Mathlib.Nat.{mod-lt}
 use native.Mathlib.Omega.{arith}
 use lib.Pow.{pow-pos, pow-mono}

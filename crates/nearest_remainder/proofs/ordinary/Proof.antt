@@ -1,6 +1,6 @@
 -- `ordinary` meets its contract. Assumes nothing.
 use mathlib.Core.Path.{_≡_, sym, ap, _∙_}
-use Prim.Native.Nat.{_+_, _*_, _≤_, _<_}
+use Prim.Native.Nat.{_*_, _<_}
 use native.Mathlib.Omega.{arith}
 use Rattle.float_format.specs.Format.{Format, unsigned}
 use Rattle.float_format.specs.Number.{unitsOf}
@@ -10,7 +10,6 @@ use Rattle.remainder.specs.Shape.{scaleOf}
 use Rattle.remainder.proofs.Cases.{left-refuses}
 use Rattle.remainder.proofs.Laws.{Operands}
 use Rattle.remainder.proofs.Split.{scale-lt}
-use Rattle.nearest_remainder.specs.Shape.{Magnitudes}
 use Rattle.nearest_remainder.proofs.Divisions.{far-smaller}
 use Rattle.nearest_remainder.proofs.Laws.{remainder-smaller, remquo-smaller}
 use borrow.Author.Needs.{needs}

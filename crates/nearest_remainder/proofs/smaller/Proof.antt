@@ -1,12 +1,12 @@
 -- `smaller` meets its contract: the scales are the same, or one apart. Assumes nothing.
-use mathlib.Core.Path.{_≡_, refl, sym, ap, _∙_}
-use Prim.Native.Nat.{ℕ, _+_, _-_, _*_, _%_, _^_, _≤_, _<_}
+use mathlib.Core.Path.{_≡_}
+use Prim.Native.Nat.{_+_, _-_, _*_, _%_, _^_, _≤_}
 use native.Mathlib.Nat.{mod-eq-of-lt, mul-le-mul-left}
 use native.Mathlib.Omega.{arith}
 use lib.Pow.{pow-mono}
 use Rattle.float_format.specs.Width.{format}
 use Rattle.remainder.specs.Shape.{scaleOf}
-use Rattle.remainder.proofs.Split.{Split, split, scale-mono}
+use Rattle.remainder.proofs.Split.{split, scale-mono}
 use Rattle.nearest_remainder.proofs.Divisions.{smaller-divided}
 use borrow.Author.Needs.{needs}
 use Rattle.nearest_remainder.proofs.smaller.Statement.{statement}

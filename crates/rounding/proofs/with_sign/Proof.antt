@@ -5,7 +5,7 @@ use mir.Syntax.{w64}
 use mir.ValLaws.{toZ-ofZ, toZ-pos}
 use lib.IntN.{pos, negℤ}
 use Rattle.float_format.specs.Rounding.{withSign}
-use Rattle.rounding.proofs.Count.{minus-is, minus-fits}
+use Rattle.twos_complement.proofs.Minus.{minus-is, minus-fits}
 use borrow.Author.Needs.{needs}
 use Rattle.rounding.proofs.with_sign.Statement.{statement}
 use Rattle.rounding.proofs.with_sign.Tie as tie
@@ -14,12 +14,12 @@ cast-z : tie.Need-cast-z
 cast-z c = search needs
 
 sub-minus : tie.Need-sub-minus
-sub-minus c = rw (minus-is (c .args .n) (c .pre)) (minus-fits (c .args .n) (c .pre))
+sub-minus c = rw (minus-is w64 (c .args .n) (c .pre)) (minus-fits w64 (c .args .n) (c .pre))
 
 returns : tie.Need-returns
 returns c =
-    rw (minus-is (c .before .args .n) (c .before .pre))
-    (toZ-ofZ w64 (negℤ (pos (c .before .args .n))) (minus-fits (c .before .args .n) (c .before .pre)) ∙ ap (λ (b : Bool). withSign b (c .before .args .n)) (sym (c .if1 .taken)))
+    rw (minus-is w64 (c .before .args .n) (c .before .pre))
+    (toZ-ofZ w64 (negℤ (pos (c .before .args .n))) (minus-fits w64 (c .before .args .n) (c .before .pre)) ∙ ap (λ (b : Bool). withSign b (c .before .args .n)) (sym (c .if1 .taken)))
 
 returns-2 : tie.Need-returns-2
 returns-2 c = toZ-pos w64 (c .before .args .n) (c .before .pre) ∙ ap (λ (b : Bool). withSign b (c .before .args .n)) (sym (c .if1 .left))
