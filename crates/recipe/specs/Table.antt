@@ -1,5 +1,5 @@
--- The step table (document 01, "Recipe text", and step 24 of document 02, W-204): what each opcode takes and gives. The reader goes by it, and the run to tell its inputs; the step
--- and range rules go by the opcode itself. Definitions only; assumes nothing.
+-- The step table (document 01, "Recipe text", and step 24 of document 02, W-204): what each opcode takes and gives. The reader goes by it, and the
+-- run to tell its inputs; the step and range rules go by the opcode itself. Definitions only; assumes nothing.
 use mathlib.Core.Bool.{Bool, true, false, _&&_, cond}
 use Prim.Native.Nat.{ℕ}
 use lib.Dec.{eqb, leb}

@@ -1,4 +1,5 @@
-// The step table (document 01, "Recipe text", and step 24 of document 02, W-204). What the reader asks of an opcode, and whether the run takes an input for it, is read off its row.
+// The step table (document 01, "Recipe text", and step 24 of document 02, W-204). What the reader asks of an opcode, and whether the run takes an
+// input for it, is read off its row.
 ghost use mathlib.Core.Path.{_≡_};
 ghost use Rattle.recipe.specs.Table.{rowOf, answerKind, isInput, sameKind, kindNumber};
 use recipe::Kind;
