@@ -36,7 +36,7 @@ fn corrected(n: u64, quotient: u64, d: u64) -> u64
 }
 
 // The leading 20 bits of d, rounded up, so that what is divided by them is never too much.
-pub fn top_of(fraction: u64, d: u64) -> u64
+fn top_of(fraction: u64, d: u64) -> u64
     requires { ⌜ (19 ≤ fraction) × (fraction ≤ 52) × (d < 2 * 2 ^ fraction) ⌝ }
     ensures { λ r. ⌜ (r ≡ topOf fraction d) × (r ≤ 2 ^ 20) ⌝ }
 {
@@ -158,7 +158,7 @@ pub fn special_answer(fraction: u64, exponent: u64, nan: u64, x: u64, y: u64) ->
 }
 
 // Whether both are subnormal or zero: their patterns without the signs are then their numbers of units.
-pub fn are_units(fraction: u64, exponent: u64, x: u64, y: u64) -> bool
+fn are_units(fraction: u64, exponent: u64, x: u64, y: u64) -> bool
     requires { ⌜ InWord (format fraction exponent) ⌝ }
     ensures { λ r. ⌜ r ≡ areUnits (format fraction exponent) x y ⌝ }
 {
