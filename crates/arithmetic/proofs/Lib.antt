@@ -1,0 +1,3 @@
+-- Laws of sums and products.
+pub mod Laws
+pub mod Bridge

@@ -1,0 +1,2 @@
+-- What the contracts of sums and products cite.
+pub mod Arithmetic
