@@ -1,3 +1,3 @@
--- Laws of sums and products.
+-- Laws of sums and products, and that they are the language's own operations.
 pub mod Laws
-pub mod Bridge
+pub mod Language

@@ -288,25 +288,32 @@ either : (b : Bool) (x y : Float) → T (not (Ieee.isNan x)) → T (not (Ieee.is
 either true x y h k = h
 either false x y h k = k
 
+-- a sum's, by the values of its terms
+sum-at-number : (g : Ieee.Format) (u v : Float) (s t : Bool) (a b P : ℕ) → 0 < P → HasValue u s a P → HasValue v t b P → T (not (Ieee.isNan (add g u v)))
+unfolding Ieee.sum
+sum-at-number g u v s t a b P h hu hv =
+    rw (sum-at g u v s t a b P h hu hv)
+    (either (Bool·beq s t) (round g s (a + b) P) (cond (ltb a b) (round g t (b - a) P) (round g (s && ltb b a) (a - b) P)) (round-number g s (a + b) P)
+    (either (ltb a b) (round g t (b - a) P) (round g (s && ltb b a) (a - b) P) (round-number g t (b - a) P) (round-number g (s && ltb b a) (a - b) P)))
+
 module _ (g : Ieee.Format) (x y : ℕ) (hx : unsigned (formatOf g) x < infinity (formatOf g)) (hy : unsigned (formatOf g) y < infinity (formatOf g)) where
   pub readable : T (not (nanBits g x))
   readable = rw (number g x (omega arith)) tt
 
-  pub sum-number : T (not (Ieee.isNan (add g (ofBits g x) (ofBits g y))))
-  unfolding Ieee.sum
-  sum-number =
+  pub sum-no-nan : T (not (Ieee.isNan (add g (ofBits g x) (ofBits g y))))
+  sum-no-nan =
       let f : Format = formatOf g in
-      let P : ℕ = 2 ^ low g in
-      let s : Bool = negative f x in
-      let t : Bool = negative f y in
-      let a : ℕ = unitsOf f x in
-      let b : ℕ = unitsOf f y in
-      rw (sum-at g (ofBits g x) (ofBits g y) s t a b P (pow-pos (low g)) (reads g x hx) (reads g y hy))
-      (either (Bool·beq s t) (round g s (a + b) P) (cond (ltb a b) (round g t (b - a) P) (round g (s && ltb b a) (a - b) P)) (round-number g s (a + b) P)
-      (either (ltb a b) (round g t (b - a) P) (round g (s && ltb b a) (a - b) P) (round-number g t (b - a) P) (round-number g (s && ltb b a) (a - b) P)))
+      sum-at-number g (ofBits g x) (ofBits g y) (negative f x) (negative f y) (unitsOf f x) (unitsOf f y) (2 ^ low g) (pow-pos (low g)) (reads g x hx) (reads g y hy)
 
-  pub product-number : T (not (Ieee.isNan (mul g (ofBits g x) (ofBits g y))))
-  product-number =
+  pub difference-no-nan : T (not (Ieee.isNan (sub g (ofBits g x) (ofBits g y))))
+  unfolding sub
+  difference-no-nan =
+      let f : Format = formatOf g in
+      sum-at-number g (ofBits g x) (neg (ofBits g y)) (negative f x) (not (negative f y)) (unitsOf f x) (unitsOf f y) (2 ^ low g) (pow-pos (low g)) (reads g x hx)
+      (turned (ofBits g y) (negative f y) (unitsOf f y) (2 ^ low g) (reads g y hy))
+
+  pub product-no-nan : T (not (Ieee.isNan (mul g (ofBits g x) (ofBits g y))))
+  product-no-nan =
       let f : Format = formatOf g in
       let P : ℕ = 2 ^ low g in
       rw (mul-at g (ofBits g x) (ofBits g y) (negative f x) (negative f y) (unitsOf f x) (unitsOf f y) P (pow-pos (low g)) (reads g x hx) (reads g y hy))

@@ -1,0 +1,2 @@
+-- What the contracts of the float bodies cite.
+pub mod Finite
