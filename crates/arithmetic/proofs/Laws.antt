@@ -26,7 +26,7 @@ use Rattle.float_format.proofs.Rounded.{rounded-order, rounded-number, rounded-
 -- ---- sums
 
 -- what the sign of a sum says
-signs : (b : Bool) (p m : ℕ) → (b ≡ true → p ≤ m) → (s : Bool) → b || ltb p m ≡ s
+pub signs : (b : Bool) (p m : ℕ) → (b ≡ true → p ≤ m) → (s : Bool) → b || ltb p m ≡ s
     → (cond s 0 ((p - m) + (m - p)) + m ≡ cond s ((p - m) + (m - p)) 0 + p)
 signs true p m h true e = omega (arith, h refl)
 signs true p m h false e = absurd (true≢false e)
@@ -40,7 +40,7 @@ sum-at-order f b c p m q n v hb hc h =
     (omega (arith, signs b p m hb (b || ltb p m) refl, signs c q n hc (c || ltb q n) refl))
 
 -- two negative numbers have nothing above zero
-both-negative : (f : Format) (x y : ℕ) → negative f x && negative f y ≡ true → above f x + above f y ≤ under f x + under f y
+pub both-negative : (f : Format) (x y : ℕ) → negative f x && negative f y ≡ true → above f x + above f y ≤ under f x + under f y
 both-negative f x y e = go (negative f x) (negative f y) refl refl e
   where
     go : (s t : Bool) → negative f x ≡ s → negative f y ≡ t → s && t ≡ true → above f x + above f y ≤ under f x + under f y

@@ -1,23 +1,21 @@
 -- A sum in the code's own steps: the smaller number in parts of the larger one's scale, added or taken away, stands for the exact sum.
 -- Assumes nothing.
 use mathlib.Core.Path.{_≡_, refl, sym, ap, _∙_}
-use mathlib.Core.Bool.{Bool, true, false, not, _&&_, _||_}
+use mathlib.Core.Bool.{Bool, false, not}
 use mathlib.Core.Logic.{_⊎_, inl, inr, ⊎-elim}
 use Prim.Native.Nat.{ℕ, suc, _+_, _-_, _*_, _%_, _^_, _≤_, _<_}
 use native.Mathlib.Nat.{mul-assoc, mul-le-mul-left, mul-le-mul-right, mul-lt-mul-of-pos-right}
 use native.Mathlib.Omega.{arith}
-use lib.Dec.{ltb}
 use lib.Pow.{pow-pos, pow-mono}
-use borrow.Author.Tests.{lt-ltb, le-ltb}
 use Rattle.float_format.specs.Format.{Format, negative, unsigned, signed, negated}
-use Rattle.float_format.specs.Number.{unitsOf, above, under, distance}
+use Rattle.float_format.specs.Number.{unitsOf}
 use Rattle.float_format.specs.Rounding.{rounded}
 use Rattle.float_format.proofs.Units.{lt-or-ge, magnitude-mono-le}
 use Rattle.float_format.proofs.Parts.{div-mono}
-use Rattle.float_format.proofs.Order.{above-at, under-at}
 use Rattle.float_format.proofs.Powers.{swap, powers, cancel-lt, cancel-right}
 use Rattle.float_format.proofs.Rounded.{rounded-scale}
-use Rattle.arithmetic.specs.Arithmetic.{sumAt, sum, difference}
+use Rattle.arithmetic.specs.Arithmetic.{sum, difference}
+use Rattle.arithmetic.proofs.Signs.{sum-same, sum-unlike, sum-opposite}
 use Rattle.integer_arithmetic.specs.Stands.{Fits, Sticky, Stands, Scaled, Aligned, lift}
 use Rattle.integer_arithmetic.proofs.Packing.{zero-stands, stands-low, zero-rounded}
 
@@ -158,44 +156,6 @@ module _ (f : Format) (z : Fits f) (x y pm ps qm qs small : ℕ) (p : Scaled f (
           let l : small < suc large =
           cancel-lt (2 ^ ps) (omega (arith, sticky-low (unitsOf f y * L) (2 ^ ps) small (pow-pos ps) near, mul-le-mul-right L less, head)) in
           omega arith
-
--- ---- signs
-
-sum-at : (f : Format) (both s : Bool) (p m n : ℕ) → both || ltb p m ≡ s → (p - m) + (m - p) ≡ n → sumAt f both p m ≡ rounded f s n 1
-sum-at f both s p m n e d = ap (λ (t : Bool). rounded f t ((p - m) + (m - p)) 1) e ∙ ap (λ (y : ℕ). rounded f s y 1) d
-
-module _ (f : Format) (x y : ℕ) where
-  pub sum-same : (s : Bool) → negative f x ≡ s → negative f y ≡ s → sum f x y ≡ rounded f s (unitsOf f x + unitsOf f y) 1
-  unfolding sum
-  sum-same true ex ey =
-      sum-at f (negative f x && negative f y) true (above f x + above f y) (under f x + under f y) (unitsOf f x + unitsOf f y) (simp (ex, ey))
-      (omega (arith, above-at f x true ex, above-at f y true ey, under-at f x true ex, under-at f y true ey))
-  sum-same false ex ey =
-      sum-at f (negative f x && negative f y) false (above f x + above f y) (under f x + under f y) (unitsOf f x + unitsOf f y)
-      (simp (ex, ey) (le-ltb (above f x + above f y) (under f x + under f y) (omega (arith, under-at f x false ex, under-at f y false ey))))
-      (omega (arith, above-at f x false ex, above-at f y false ey, under-at f x false ex, under-at f y false ey))
-
-  pub sum-unlike : (s : Bool) → negative f x ≡ s → negative f y ≡ not s → unitsOf f y < unitsOf f x → sum f x y ≡ rounded f s (unitsOf f x - unitsOf f y) 1
-  unfolding sum
-  sum-unlike true ex ey l =
-      sum-at f (negative f x && negative f y) true (above f x + above f y) (under f x + under f y) (unitsOf f x - unitsOf f y)
-      (simp (ex, ey) (lt-ltb (above f x + above f y) (under f x + under f y) (omega (arith, above-at f x true ex, above-at f y false ey, under-at f x true ex, under-at f y false ey))))
-      (omega (arith, above-at f x true ex, above-at f y false ey, under-at f x true ex, under-at f y false ey))
-  sum-unlike false ex ey l =
-      sum-at f (negative f x && negative f y) false (above f x + above f y) (under f x + under f y) (unitsOf f x - unitsOf f y)
-      (simp (ex, ey) (le-ltb (above f x + above f y) (under f x + under f y) (omega (arith, above-at f x false ex, above-at f y true ey, under-at f x false ex, under-at f y true ey))))
-      (omega (arith, above-at f x false ex, above-at f y true ey, under-at f x false ex, under-at f y true ey))
-
-  pub sum-opposite : (s : Bool) → negative f x ≡ s → negative f y ≡ not s → unitsOf f y ≡ unitsOf f x → sum f x y ≡ rounded f false 0 1
-  unfolding sum
-  sum-opposite true ex ey l =
-      sum-at f (negative f x && negative f y) false (above f x + above f y) (under f x + under f y) 0
-      (simp (ex, ey) (le-ltb (above f x + above f y) (under f x + under f y) (omega (arith, above-at f x true ex, above-at f y false ey, under-at f x true ex, under-at f y false ey))))
-      (omega (arith, above-at f x true ex, above-at f y false ey, under-at f x true ex, under-at f y false ey))
-  sum-opposite false ex ey l =
-      sum-at f (negative f x && negative f y) false (above f x + above f y) (under f x + under f y) 0
-      (simp (ex, ey) (le-ltb (above f x + above f y) (under f x + under f y) (omega (arith, above-at f x false ex, above-at f y true ey, under-at f x false ex, under-at f y true ey))))
-      (omega (arith, above-at f x false ex, above-at f y true ey, under-at f x false ex, under-at f y true ey))
 
 -- ---- the answers
 
