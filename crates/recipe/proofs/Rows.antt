@@ -1,6 +1,6 @@
 -- The step table between its single opcodes: which row a range of opcodes has, and that the gaps have none. From opcode 10 on the table has
--- three blocks, each a range and one opcode after it, and 24 between the last two; a block is passed over, before or after it, or entered. Assumes
--- nothing.
+-- three blocks, each a range and one opcode after it, 24 between the last two, and 40 to 42 after them; a block is passed over, before or after it, or
+-- entered. Assumes nothing.
 use mathlib.Core.Path.{_≡_, _∙_}
 use mathlib.Core.Bool.{cond}
 use Prim.Native.Nat.{ℕ, _≤_, _<_}
@@ -45,9 +45,12 @@ module _ (b : Block) (n : ℕ) (z : Row) where
 
 -- ---- the rows of ranges and gaps
 
--- after the inputs and constants the table is the three blocks, with 24 alone before the last
+-- after the inputs and constants the table is the three blocks, with 24 alone before the last, and 40 to 42
+abbrev from40 : ℕ → Row
+from40 n = cond (within 0x40 0x42 n) (Binary Double Double Double) Unknown
+
 abbrev from30 : ℕ → Row
-from30 n = look thirties n Unknown
+from30 n = look thirties n (from40 n)
 
 abbrev from24 : ℕ → Row
 from24 n = cond (eqb n 0x24) (Binary Double Double Double) (from30 n)
@@ -57,6 +60,13 @@ from20 n = look twenties n (from24 n)
 
 not-24 : (n : ℕ) → (n ≡ 0x24 → ⊥) → from24 n ≡ from30 n
 not-24 n e = rw (ne-eqb n 0x24 e)
+
+under-40 : (n : ℕ) → n < 0x40 → from40 n ≡ Unknown
+under-40 n h = rw (lt-leb 0x40 n h)
+
+-- from 25 to 2f
+under-30 : (n : ℕ) → n < 0x30 → from30 n ≡ Unknown
+under-30 n h = before thirties n (from40 n) h (λ e. omega arith) ∙ under-40 n (omega arith)
 
 blocks : (n : ℕ) → (n ≡ 1 → ⊥) → (n ≡ 2 → ⊥) → (n ≡ 3 → ⊥) → (n ≡ 4 → ⊥) → rowOf n ≡ look tens n (from20 n)
 unfolding rowOf
@@ -68,7 +78,7 @@ before-10 n h not1 not2 not3 not4 =
     ∙ before tens n (from20 n) h (λ e. omega arith)
     ∙ before twenties n (from24 n) (omega arith) (λ e. omega arith)
     ∙ not-24 n (λ e. omega arith)
-    ∙ before thirties n Unknown (omega arith) (λ e. omega arith)
+    ∙ under-30 n (omega arith)
 
 module _ (n : ℕ) where
   from-10-on : 0x10 ≤ n → rowOf n ≡ look tens n (from20 n)
@@ -81,7 +91,7 @@ module _ (n : ℕ) where
   after-18 l = from-10-on (omega arith) ∙ after tens n (from20 n) (omega arith) (omega arith) (λ e. omega arith)
 
   pub before-20 : 0x18 < n → n < 0x20 → rowOf n ≡ Unknown
-  before-20 l h = after-18 l ∙ before twenties n (from24 n) h (λ e. omega arith) ∙ not-24 n (λ e. omega arith) ∙ before thirties n Unknown (omega arith) (λ e. omega arith)
+  before-20 l h = after-18 l ∙ before twenties n (from24 n) h (λ e. omega arith) ∙ not-24 n (λ e. omega arith) ∙ under-30 n (omega arith)
 
   pub from-20 : 0x20 ≤ n → n < 0x23 → rowOf n ≡ Binary Double Double Double
   from-20 l h = after-18 (omega arith) ∙ inside twenties n (from24 n) l (omega arith)
@@ -90,10 +100,19 @@ module _ (n : ℕ) where
   after-24 l = after-18 (omega arith) ∙ after twenties n (from24 n) (omega arith) (omega arith) (λ e. omega arith) ∙ not-24 n (λ e. omega arith)
 
   pub before-30 : 0x24 < n → n < 0x30 → rowOf n ≡ Unknown
-  before-30 l h = after-24 l ∙ before thirties n Unknown h (λ e. omega arith)
+  before-30 l h = after-24 l ∙ under-30 n h
 
   pub from-30 : 0x30 ≤ n → n < 0x32 → rowOf n ≡ Binary Whole Whole Whole
-  from-30 l h = after-24 (omega arith) ∙ inside thirties n Unknown l (omega arith)
+  from-30 l h = after-24 (omega arith) ∙ inside thirties n (from40 n) l (omega arith)
 
-  pub after-32 : 0x32 < n → rowOf n ≡ Unknown
-  after-32 l = after-24 (omega arith) ∙ after thirties n Unknown (omega arith) (omega arith) (λ e. omega arith)
+  after-32 : 0x32 < n → rowOf n ≡ from40 n
+  after-32 l = after-24 (omega arith) ∙ after thirties n (from40 n) (omega arith) (omega arith) (λ e. omega arith)
+
+  pub before-40 : 0x32 < n → n < 0x40 → rowOf n ≡ Unknown
+  before-40 l h = after-32 l ∙ under-40 n h
+
+  pub from-40 : 0x40 ≤ n → n < 0x43 → rowOf n ≡ Binary Double Double Double
+  from-40 l h = after-32 (omega arith) ∙ rw (le-leb 0x40 n l, le-leb n 0x42 (omega arith))
+
+  pub after-42 : 0x42 < n → rowOf n ≡ Unknown
+  after-42 l = after-32 (omega arith) ∙ rw (le-leb 0x40 n (omega arith), lt-leb n 0x42 l)

@@ -1,5 +1,5 @@
--- The step table (document 01, "Recipe text", and step 24 of document 02, W-204): what each opcode takes and gives. The reader goes by it, and the
--- run to tell its inputs; the step and range rules go by the opcode itself. Definitions only; assumes nothing.
+-- The step table (document 01, "Recipe text"; steps 24 and 40 to 42: document 02, W-204 and W-208): what each opcode takes and gives. The reader goes
+-- by it, and the run to tell its inputs; the step and range rules go by the opcode itself. Definitions only; assumes nothing.
 use mathlib.Core.Bool.{Bool, true, false, _&&_, cond}
 use Prim.Native.Nat.{ℕ}
 use lib.Dec.{eqb, leb}
@@ -28,7 +28,9 @@ rowOf opcode =
     (cond (eqb opcode 0x24) (Binary Double Double Double)
     -- 30, 31 whole sum and difference; 32 whole to double
     (cond (within 0x30 0x31 opcode) (Binary Whole Whole Whole)
-    (cond (eqb opcode 0x32) (Unary Whole Double) Unknown))))))))))
+    (cond (eqb opcode 0x32) (Unary Whole Double)
+    -- 40 add, 41 subtract, 42 multiply
+    (cond (within 0x40 0x42 opcode) (Binary Double Double Double) Unknown)))))))))))
 
 -- the kind of a step's value
 abbrev pub answerKind : Row → Kind

@@ -1,5 +1,5 @@
-// The step table (document 01, "Recipe text", and step 24 of document 02, W-204). What the reader asks of an opcode, and whether the run takes an
-// input for it, is read off its row.
+// The step table (document 01, "Recipe text"; steps 24 and 40 to 42: document 02, W-204 and W-208). What the reader asks of an opcode, and whether
+// the run takes an input for it, is read off its row.
 ghost use mathlib.Core.Path.{_≡_};
 ghost use Rattle.recipe.specs.Table.{rowOf, answerKind, isInput, sameKind, kindNumber};
 use recipe::Kind;
@@ -45,6 +45,12 @@ pub fn row_of(opcode: u8) -> Row
     }
     if opcode == 0x32 {
         return Row::Unary(Kind::Whole, Kind::Double);
+    }
+    if opcode < 0x40 {
+        return Row::Unknown;
+    }
+    if opcode < 0x43 {
+        return Row::Binary(Kind::Double, Kind::Double, Kind::Double);
     }
     Row::Unknown
 }

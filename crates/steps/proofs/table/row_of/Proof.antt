@@ -2,7 +2,7 @@
 use mathlib.Core.Path.{sym, ap}
 use native.Mathlib.Omega.{arith}
 use Rattle.recipe.specs.Table.{rowOf}
-use Rattle.recipe.proofs.Rows.{before-10, from-10, before-20, from-20, before-30, from-30, after-32}
+use Rattle.recipe.proofs.Rows.{before-10, from-10, before-20, from-20, before-30, from-30, before-40, from-40, after-42}
 use Rattle.steps.proofs.table.row_of.Statement.{statement}
 use Rattle.steps.proofs.table.row_of.Tie as tie
 
@@ -57,7 +57,13 @@ unfolding rowOf
 returns-14 c = sym (ap rowOf (c .if10 .taken))
 
 returns-15 : tie.Need-returns-15
-returns-15 c = sym (after-32 (c .before .before .before .before .before .before .before .before .before .before .args .opcode) (omega arith))
+returns-15 c = sym (before-40 (c .before .before .before .before .before .before .before .before .before .before .before .args .opcode) (omega arith) (omega arith))
+
+returns-16 : tie.Need-returns-16
+returns-16 c = sym (from-40 (c .before .before .before .before .before .before .before .before .before .before .before .before .args .opcode) (omega arith) (omega arith))
+
+returns-17 : tie.Need-returns-17
+returns-17 c = sym (after-42 (c .before .before .before .before .before .before .before .before .before .before .before .before .args .opcode) (omega arith))
 
 pub row-of-spec : {M : Type 1} → statement M
 row-of-spec =
@@ -77,4 +83,6 @@ row-of-spec =
     returns-12
     returns-13
     returns-14
-    returns-15)
+    returns-15
+    returns-16
+    returns-17)
