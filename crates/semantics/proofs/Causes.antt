@@ -12,10 +12,11 @@ use Rattle.float_format.specs.Format.{binary64, isInfinite}
 use Rattle.float_format.specs.Rounding.{lroundRefusal}
 use Rattle.recipe.specs.declared.Step.{Step}
 use Rattle.semantics.specs.Value.{fitsWord}
-use Rattle.semantics.specs.Range.{Range, Ranged, ranged, low, high, least, most, holdsZero, infiniteEnd, lowPower, highPower, rangeRule, stepRange}
+use Rattle.semantics.specs.Range.{Range, doubles, Ranged, ranged, low, high, least, most, holdsZero, infiniteEnd, lowPower, highPower, sumLow, sumHigh, differenceLow, differenceHigh, productLow, productHigh, workedRange, infiniteSum, infiniteDifference, infiniteProduct, rangeRule, stepRange}
 use Rattle.semantics.specs.Range as range
-use Rattle.semantics.specs.Cause.{Named, ofA, ofB, Cause, cause, Found, none, found, overflows, firstOf, causesOf, causeOf}
+use Rattle.semantics.specs.Cause.{Named, ofA, ofB, Cause, cause, Found, none, found, overflows, arithmeticCauses, firstOf, causesOf, causeOf}
 use Rattle.semantics.proofs.Sound.Kept.{both}
+use Rattle.semantics.proofs.Sound.Products.{infinite-products}
 use Rattle.semantics.proofs.Rules.{Unlisted, absent, range-unlisted, by-opcode}
 
 -- ---- the first of a list that holds
@@ -86,6 +87,19 @@ four false false true y r = refl
 four false false false true r = refl
 four false false false false r = refl
 
+-- two numbers in a row: any of the first four facts is refused with 20, then any of the last two with 21
+six : (l h k m x y : Bool) (r : Range)
+    → numberOf (firstOf (cause 14 ofA 20 l ∷ cause 15 ofA 20 h ∷ cause 16 ofB 20 k ∷ cause 17 ofB 20 m ∷ cause 18 ofA 21 x ∷ cause 19 ofA 21 y ∷ []))
+    ≡ refusalOf (cond ((l || h) || (k || m)) (range.refused 20) (cond (x || y) (range.refused 21) (ranged r)))
+unfolding firstOf
+six true h k m x y r = refl
+six false true k m x y r = refl
+six false false true m x y r = refl
+six false false false true x y r = refl
+six false false false false true y r = refl
+six false false false false false true r = refl
+six false false false false false false r = refl
+
 -- ---- by the opcode
 
 -- an opcode that the table has not has no cause
@@ -93,7 +107,7 @@ pub none-unlisted : (k : ℕ) (a b : Range) → Unlisted k → causesOf k a b �
 unfolding causesOf
 none-unlisted k a b h =
     let g = absent k h in
-    simp (g .no-18, g .no-22, g .no-23, g .no-24, g .no-30, g .no-31, g .no-32)
+    simp (g .no-18, g .no-22, g .no-23, g .no-24, g .no-30, g .no-31, g .no-32, g .no-40, g .no-41, g .no-42)
 
 module _ (p q : ℕ) (a b : Range) where
   abbrev Exact : ℕ → Type 0
@@ -102,6 +116,13 @@ module _ (p q : ℕ) (a b : Range) where
   other : (k : ℕ) → Unlisted k → Exact k
   unfolding firstOf
   other k h = simp (← range-unlisted k p q a b h, none-unlisted k a b h)
+
+  -- the two causes that follow from the answer's ends l and h, where over says that one of them is infinite
+  worked-exact : (over : Bool) (l h : ℕ) → over ≡ (isInfinite binary64 l || isInfinite binary64 h)
+      → numberOf (firstOf (arithmeticCauses a b l h)) ≡ refusalOf (workedRange a b over l h)
+  worked-exact over l h e =
+      six (isInfinite binary64 (low a)) (isInfinite binary64 (high a)) (isInfinite binary64 (low b)) (isInfinite binary64 (high b)) (isInfinite binary64 l) (isInfinite binary64 h) (doubles l h)
+      ∙ ap (λ (t : Bool). refusalOf (workedRange a b t l h)) (sym e)
 
   exact : (k : ℕ) → Exact k
   unfolding rangeRule causesOf firstOf
@@ -115,6 +136,9 @@ module _ (p q : ℕ) (a b : Range) where
       (two (fitsWord (least a +ℤ least b)) (fitsWord (most a +ℤ most b)) 6 7 21 _)
       (two (fitsWord (least a -ℤ most b)) (fitsWord (most a -ℤ least b)) 6 7 21 _)
       (two (leb (natAbs (least a)) (2 ^ 53)) (leb (natAbs (most a)) (2 ^ 53)) 12 13 22 _)
+      (worked-exact (infiniteSum a b) (sumLow a b) (sumHigh a b) refl)
+      (worked-exact (infiniteDifference a b) (differenceLow a b) (differenceHigh a b) refl)
+      (worked-exact (infiniteProduct a b) (productLow a b) (productHigh a b) (infinite-products a b))
       other
 
 -- There is a cause exactly where the sheet's rule refuses, and the first has its number.
@@ -146,6 +170,9 @@ range-numbered t a b =
     (either (fitsWord (least a +ℤ least b) && fitsWord (most a +ℤ most b)) _ _ (shown _) overflow)
     (either (fitsWord (least a -ℤ most b) && fitsWord (most a -ℤ least b)) _ _ (shown _) overflow)
     (either (leb (natAbs (least a)) (2 ^ 53) && leb (natAbs (most a)) (2 ^ 53)) _ _ (shown _) (turned 22 (omega arith) (omega arith)))
+    (computed (infiniteSum a b) (sumLow a b) (sumHigh a b))
+    (computed (infiniteDifference a b) (differenceLow a b) (differenceHigh a b))
+    (computed (infiniteProduct a b) (productLow a b) (productHigh a b))
     (λ k h. rw (sym (range-unlisted k (t .p) (t .q) a b h)) (shown _))
     (t .opcode)
   where
@@ -154,6 +181,9 @@ range-numbered t a b =
 
     overflow : RangeNumbered (range.refused 21)
     overflow = turned 21 (omega arith) (omega arith)
+
+    computed : (over : Bool) (l h : ℕ) → RangeNumbered (workedRange a b over l h)
+    computed over l h = either (infiniteEnd a || infiniteEnd b) _ _ domain (either over _ _ overflow (shown (doubles l h)))
 
 -- ---- no code is 0
 
@@ -164,7 +194,7 @@ allCoded (c ∷ l) = ltb 0 (c .code) && allCoded l
 coded : (k : ℕ) (a b : Range) → allCoded (causesOf k a b) ≡ true
 unfolding causesOf allCoded
 coded k a b =
-    by-opcode (λ (k : ℕ). allCoded (causesOf k a b) ≡ true) refl refl refl refl refl refl refl refl refl refl refl refl refl refl refl refl refl refl refl refl refl
+    by-opcode (λ (k : ℕ). allCoded (causesOf k a b) ≡ true) refl refl refl refl refl refl refl refl refl refl refl refl refl refl refl refl refl refl refl refl refl refl refl refl
     (λ k h. rw (none-unlisted k a b h)) k
 
 coded-at : (before : List Cause) (c : Cause) (after : List Cause) → allCoded (before ++ (c ∷ after)) ≡ true → 0 < c .code
@@ -239,3 +269,16 @@ module _ (a b : Range) where
   pub double-codes : (codes (causesOf 0x32 a b) ≡ 12 ∷ 13 ∷ []) × (operands (causesOf 0x32 a b) ≡ ofA ∷ ofA ∷ [])
   unfolding causesOf
   double-codes = (refl, refl)
+
+  -- 40 to 42 have the same codes, which name the same operands
+  pub add-codes : (codes (causesOf 0x40 a b) ≡ 14 ∷ 15 ∷ 16 ∷ 17 ∷ 18 ∷ 19 ∷ []) × (operands (causesOf 0x40 a b) ≡ ofA ∷ ofA ∷ ofB ∷ ofB ∷ ofA ∷ ofA ∷ [])
+  unfolding causesOf
+  add-codes = (refl, refl)
+
+  pub subtract-codes : (codes (causesOf 0x41 a b) ≡ codes (causesOf 0x40 a b)) × (operands (causesOf 0x41 a b) ≡ operands (causesOf 0x40 a b))
+  unfolding causesOf
+  subtract-codes = (refl, refl)
+
+  pub multiply-codes : (codes (causesOf 0x42 a b) ≡ codes (causesOf 0x40 a b)) × (operands (causesOf 0x42 a b) ≡ operands (causesOf 0x40 a b))
+  unfolding causesOf
+  multiply-codes = (refl, refl)

@@ -48,10 +48,10 @@ marked-ends l rs f e k low high h m q = go (rw q at (marks-ends l rs f e k h m))
 
 -- ---- the rule at its corners, in a table that antt computes, so that a wrong rule is refused by an entry
 
--- the opcodes of double kind in order: 01, 03, 10 to 17, 20 to 24, 32
+-- the opcodes of double kind in order: 01, 03, 10 to 17, 20 to 24, 32, 40 to 42
 abbrev marksAt : Range → Bool → Bool → List Bool
 marksAt r a b =
-    map (λ (k : ℕ). markRule k r a b) (0x01 ∷ 0x03 ∷ 0x10 ∷ 0x11 ∷ 0x12 ∷ 0x13 ∷ 0x14 ∷ 0x15 ∷ 0x16 ∷ 0x17 ∷ 0x20 ∷ 0x21 ∷ 0x22 ∷ 0x23 ∷ 0x24 ∷ 0x32 ∷ [])
+    map (λ (k : ℕ). markRule k r a b) (0x01 ∷ 0x03 ∷ 0x10 ∷ 0x11 ∷ 0x12 ∷ 0x13 ∷ 0x14 ∷ 0x15 ∷ 0x16 ∷ 0x17 ∷ 0x20 ∷ 0x21 ∷ 0x22 ∷ 0x23 ∷ 0x24 ∷ 0x32 ∷ 0x40 ∷ 0x41 ∷ 0x42 ∷ [])
 
 abbrev y : Bool
 y = true
@@ -66,11 +66,11 @@ pub mark-table : marksAt (doubles 0x3ff0_0000_0000_0000 0x4000_0000_0000_0000) t
     ∷ marksAt (doubles 0x3ff0_0000_0000_0000 0x7ff0_0000_0000_0000) false true
     ∷ marksAt (doubles 0xfff0_0000_0000_0000 0x3ff0_0000_0000_0000) true true
     ∷ []
-    ≡ (n ∷ n ∷ y ∷ y ∷ y ∷ y ∷ y ∷ n ∷ y ∷ y ∷ y ∷ y ∷ y ∷ n ∷ y ∷ y ∷ [])
-    ∷ (y ∷ y ∷ y ∷ y ∷ y ∷ y ∷ y ∷ n ∷ n ∷ n ∷ n ∷ n ∷ n ∷ n ∷ n ∷ y ∷ [])
-    ∷ (n ∷ n ∷ y ∷ y ∷ y ∷ y ∷ y ∷ n ∷ y ∷ y ∷ n ∷ n ∷ n ∷ n ∷ n ∷ y ∷ [])
-    ∷ (n ∷ n ∷ n ∷ n ∷ n ∷ n ∷ n ∷ n ∷ n ∷ n ∷ n ∷ n ∷ n ∷ n ∷ n ∷ y ∷ [])
-    ∷ (n ∷ n ∷ n ∷ n ∷ n ∷ n ∷ n ∷ n ∷ y ∷ y ∷ y ∷ y ∷ y ∷ n ∷ y ∷ y ∷ [])
+    ≡ (n ∷ n ∷ y ∷ y ∷ y ∷ y ∷ y ∷ n ∷ y ∷ y ∷ y ∷ y ∷ y ∷ n ∷ y ∷ y ∷ y ∷ y ∷ y ∷ [])
+    ∷ (y ∷ y ∷ y ∷ y ∷ y ∷ y ∷ y ∷ n ∷ n ∷ n ∷ n ∷ n ∷ n ∷ n ∷ n ∷ y ∷ n ∷ n ∷ n ∷ [])
+    ∷ (n ∷ n ∷ y ∷ y ∷ y ∷ y ∷ y ∷ n ∷ y ∷ y ∷ n ∷ n ∷ n ∷ n ∷ n ∷ y ∷ n ∷ n ∷ n ∷ [])
+    ∷ (n ∷ n ∷ n ∷ n ∷ n ∷ n ∷ n ∷ n ∷ n ∷ n ∷ n ∷ n ∷ n ∷ n ∷ n ∷ y ∷ n ∷ n ∷ n ∷ [])
+    ∷ (n ∷ n ∷ n ∷ n ∷ n ∷ n ∷ n ∷ n ∷ y ∷ y ∷ y ∷ y ∷ y ∷ n ∷ y ∷ y ∷ y ∷ y ∷ y ∷ [])
     ∷ []
 unfolding markRule isIntegral isNan isInfinite magnitude above under
 mark-table = refl

@@ -37,6 +37,19 @@ module _ (a b : Bool) where
   unfolding markRule
   remainder-marked l h = refl
 
+  -- 40 to 42: add, subtract and multiply too (W-208).
+  pub add-marked : (l h : ℕ) → markRule 0x40 (doubles l h) a b ≡ (a && b)
+  unfolding markRule
+  add-marked l h = refl
+
+  pub subtract-marked : (l h : ℕ) → markRule 0x41 (doubles l h) a b ≡ (a && b)
+  unfolding markRule
+  subtract-marked l h = refl
+
+  pub multiply-marked : (l h : ℕ) → markRule 0x42 (doubles l h) a b ≡ (a && b)
+  unfolding markRule
+  multiply-marked l h = refl
+
   -- 01: an input with P below Q does not have it.
   pub input-range-unmarked : (p q : ℕ) → below binary64 p q ≡ true → markRule 0x01 (doubles p q) a b ≡ false
   unfolding markRule

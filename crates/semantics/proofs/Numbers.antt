@@ -2,13 +2,13 @@
 use mathlib.Core.Path.{_≡_, refl}
 use mathlib.Core.List.{List, [], _∷_, _++_}
 use mathlib.Core.Logic.{⊎-elim}
-use mathlib.Core.Bool.{Bool, true, false, cond}
+use mathlib.Core.Bool.{Bool, true, false, _||_, cond}
 use Prim.Native.Nat.{ℕ, zero, suc, _+_, _*_, _^_, _≤_}
 use native.Mathlib.Omega.{arith}
 use lib.Dec.{eqb, leb, ltb}
 use lib.IntN.{natAbs, _+ℤ_, _-ℤ_}
 use lib.ListN.{length, getD}
-use Rattle.float_format.specs.Format.{binary64}
+use Rattle.float_format.specs.Format.{binary64, isInfinite}
 use Rattle.float_format.specs.Rounding.{lroundRefusal}
 use Rattle.remainder.specs.Remainder.{fmodRefusal}
 use Rattle.scaling.specs.Scaling.{ldexpRefusal}
@@ -20,7 +20,7 @@ use Rattle.recipe.specs.Table.{rowOf, isInput}
 use Rattle.recipe.specs.Text.{Text, steps, short, inputsIn, readText}
 use Rattle.recipe.specs.Text as text
 use Rattle.recipe.proofs.Laws as reader
-use Rattle.semantics.specs.Value.{Datum, Outcome, done, refused, asDouble, asWhole, fitsWord, ruleOf, stepValue}
+use Rattle.semantics.specs.Value.{Datum, Outcome, done, refused, asDouble, asWhole, fitsWord, worked, ruleOf, stepValue}
 use Rattle.semantics.specs.Frame.{Frame, onField, wordsFrom, outside, ranged, onWords, readFrame}
 use Rattle.semantics.specs.Frame as frame
 use Rattle.semantics.specs.Run.{Run, completed, onOutcome, runFrom, onFrame, callOn, runSteps, onText, runOf}
@@ -36,6 +36,10 @@ pub data Numbered : Outcome → Type 0 where
 either : (b : Bool) (x y : Outcome) → Numbered x → Numbered y → Numbered (cond b x y)
 either true x y p q = p
 either false x y p q = q
+
+worked-numbered : (x y r : ℕ) → Numbered (worked x y r)
+worked-numbered x y r =
+    either (isInfinite binary64 x || isInfinite binary64 y) _ _ (stop 20 (omega arith) (omega arith)) (either (isInfinite binary64 r) _ _ (stop 21 (omega arith) (omega arith)) (value _))
 
 pub step-numbered : (t : Step) (w : ℕ) (a b : Datum) → Numbered (stepValue t w a b)
 unfolding stepValue ruleOf
@@ -64,7 +68,10 @@ step-numbered t w a b =
     (either (eqb (t .opcode) 0x30) _ _ (either (fitsWord (asWhole a +ℤ asWhole b)) _ _ (value _) range)
     (either (eqb (t .opcode) 0x31) _ _ (either (fitsWord (asWhole a -ℤ asWhole b)) _ _ (value _) range)
     (either (eqb (t .opcode) 0x32) _ _ (either (leb (natAbs (asWhole a)) (2 ^ 53)) _ _ (value _) size)
-    (value _)))))))))))))))))))))
+    (either (eqb (t .opcode) 0x40) _ _ (worked-numbered (asDouble a) (asDouble b) _)
+    (either (eqb (t .opcode) 0x41) _ _ (worked-numbered (asDouble a) (asDouble b) _)
+    (either (eqb (t .opcode) 0x42) _ _ (worked-numbered (asDouble a) (asDouble b) _)
+    (value _))))))))))))))))))))))))
 
 -- ---- the frame
 

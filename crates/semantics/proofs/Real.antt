@@ -10,7 +10,7 @@ use lib.IntN.{natAbs, _+ℤ_, _-ℤ_}
 use lib.ListN.{length, getD, length-append, List·getD-append, List·getD-eq-default}
 use lib.Seq.{getD-at}
 use borrow.Author.Tests.{eqb-true, leb-true}
-use Rattle.float_format.specs.Format.{binary64, isNan}
+use Rattle.float_format.specs.Format.{binary64, isNan, isInfinite}
 use Rattle.float_format.specs.Rounding.{lroundRefusal}
 use Rattle.float_format.specs.declared.Direction.the-variants.{Down, Up, TowardZero, HalfAway, HalfEven}
 use Rattle.float_format.proofs.Units.{three-way}
@@ -22,7 +22,7 @@ use Rattle.recipe.specs.declared.Step.{Step}
 use Rattle.recipe.specs.Table.{rowOf}
 use Rattle.recipe.specs.Text.{mostSteps, first, second, badRange, doubleAbove}
 use Rattle.recipe.specs.Answer.{Formed}
-use Rattle.semantics.specs.Value.{Datum, double, whole, asDouble, asWhole, Outcome, done, refused, fitsWord, ruleOf, stepValue}
+use Rattle.semantics.specs.Value.{Datum, double, whole, asDouble, asWhole, Outcome, done, refused, fitsWord, worked, ruleOf, stepValue}
 use Rattle.semantics.specs.Value as value
 use Rattle.semantics.specs.Frame.{words, outside, readFrame}
 use Rattle.semantics.specs.Frame as frame
@@ -32,6 +32,8 @@ use Rattle.semantics.proofs.Sound.Kept.{no-or, valid, rest-of, number-o
 use Rattle.semantics.proofs.Sound.Floats.{integral-number, negated-number, fmin-number, fmax-number, absolute-number}
 use Rattle.semantics.proofs.Sound.Fractions.{fmod-number}
 use Rattle.semantics.proofs.Sound.Nearest.{remainder-number}
+use Rattle.semantics.proofs.Sound.Products.{product-real}
+use Rattle.semantics.proofs.Sound.Arithmetic.{sum-real, difference-real}
 use Rattle.semantics.proofs.Sound.Scaled.{ldexp-number}
 use Rattle.semantics.proofs.Sound.Doubles.{whole-number}
 use Rattle.semantics.proofs.Sound.Recipes.{Declared, declared, following, frame-step, frame-read}
@@ -54,6 +56,14 @@ operand (whole z) h = zero-number
 either : (b : Bool) (v : Datum) (number : ℕ) → (b ≡ true → Number v) → NumberOutcome (cond b (done v) (refused number))
 either true v number h = h refl
 either false v number h = tt
+
+worked-number : (x y r : ℕ) → isNan binary64 r ≡ false → NumberOutcome (worked x y r)
+worked-number x y r n = pick (isInfinite binary64 x || isInfinite binary64 y) (isInfinite binary64 r)
+  where
+    pick : (s t : Bool) → NumberOutcome (cond s (refused 20) (cond t (refused 21) (done (double r))))
+    pick true t = tt
+    pick false true = tt
+    pick false false = n
 
 module _ (t : Step) (w : ℕ) (a b : Datum) (na : Number a) (nb : Number b) where
   x : isNan binary64 (asDouble a) ≡ false
@@ -98,6 +108,9 @@ module _ (t : Step) (w : ℕ) (a b : Datum) (na : Number a) (nb : Number b) wher
       (λ e g. either (fitsWord (asWhole a +ℤ asWhole b)) _ 21 (λ q. tt))
       (λ e g. either (fitsWord (asWhole a -ℤ asWhole b)) _ 21 (λ q. tt))
       (λ e g. either (leb (natAbs (asWhole a)) (2 ^ 53)) _ 22 (λ q. whole-number (asWhole a) (leb-true (natAbs (asWhole a)) (2 ^ 53) q)))
+      (λ e g. worked-number (asDouble a) (asDouble b) _ (sum-real (asDouble a) (asDouble b)))
+      (λ e g. worked-number (asDouble a) (asDouble b) _ (difference-real (asDouble a) (asDouble b)))
+      (λ e g. worked-number (asDouble a) (asDouble b) _ (product-real (asDouble a) (asDouble b)))
       good-other
       k
 

@@ -7,6 +7,8 @@ pub mod Inputs
 pub mod Lround
 pub mod Scaled
 pub mod Nearest
+pub mod Products
+pub mod Arithmetic
 pub mod Doubles
 pub mod Steps
 pub mod Kinds

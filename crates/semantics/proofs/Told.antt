@@ -4,10 +4,12 @@ use mathlib.Core.Path.{_≡_, refl}
 use Prim.Native.Nat.{ℕ}
 use lib.Ieee.{size, span, climb}
 use lib.IntN.{pos, negsuc}
-use Rattle.float_format.specs.Format.{isNan, isInfinite, isZero, quieted}
+use Rattle.float_format.specs.Format.{isNan, isInfinite, isZero, quieted, negated}
 use Rattle.float_format.specs.Number.{magnitude, encode, above, under}
 use Rattle.float_format.specs.Rounding.{parts, wholePart, integral, lroundRefusal, nearest, rounded}
+use Rattle.ordering.specs.Ordering.{fmin, fmax}
 use Rattle.scaling.specs.Scaling.{scaled, ldexp, ldexpRefusal}
+use Rattle.arithmetic.specs.Arithmetic.{sum, difference, product}
 use Rattle.recipe.specs.declared.Step.{Step}
 use Rattle.recipe.specs.Text.{step}
 use Rattle.semantics.specs.Range.{Range, doubles, wholes}
@@ -113,6 +115,68 @@ whole-low = (refl, refl)
 pub whole-high : Told 0x32 (wholes (negsuc 9007199254740991) (pos 9007199254740993)) (wholes (pos 0) (pos 0)) 3 13
 unfolding causeOf causesOf firstOf above under magnitude
 whole-high = (refl, refl)
+
+-- ---- 40 to 42: an infinite end of an operand, then an end of the answer that overflows
+
+pub add-low : Told 0x40 (doubles 0xfff0_0000_0000_0000 0x3ff0_0000_0000_0000) (doubles 0x3ff0_0000_0000_0000 0x4000_0000_0000_0000) 3 14
+unfolding causeOf causesOf firstOf isInfinite
+add-low = (refl, refl)
+
+pub add-high : Told 0x40 (doubles 0x3ff0_0000_0000_0000 0x7ff0_0000_0000_0000) (doubles 0x3ff0_0000_0000_0000 0x4000_0000_0000_0000) 3 15
+unfolding causeOf causesOf firstOf isInfinite
+add-high = (refl, refl)
+
+pub add-b-low : Told 0x40 (doubles 0x3ff0_0000_0000_0000 0x4000_0000_0000_0000) (doubles 0xfff0_0000_0000_0000 0x3ff0_0000_0000_0000) 4 16
+unfolding causeOf causesOf firstOf isInfinite
+add-b-low = (refl, refl)
+
+pub add-b-high : Told 0x40 (doubles 0x3ff0_0000_0000_0000 0x4000_0000_0000_0000) (doubles 0x3ff0_0000_0000_0000 0x7ff0_0000_0000_0000) 4 17
+unfolding causeOf causesOf firstOf isInfinite
+add-b-high = (refl, refl)
+
+pub add-low-overflows : Told 0x40 (doubles 0xffef_ffff_ffff_ffff 0x3ff0_0000_0000_0000) (doubles 0xffef_ffff_ffff_ffff 0x3ff0_0000_0000_0000) 3 18
+unfolding causeOf causesOf firstOf sum rounded nearest parts encode above under magnitude isInfinite size span climb
+add-low-overflows = (refl, refl)
+
+pub add-high-overflows : Told 0x40 (doubles 0xffef_ffff_ffff_ffff 0x7fef_ffff_ffff_ffff) (doubles 0x3ff0_0000_0000_0000 0x7fef_ffff_ffff_ffff) 3 19
+unfolding causeOf causesOf firstOf sum rounded nearest parts encode above under magnitude isInfinite size span climb
+add-high-overflows = (refl, refl)
+
+-- both 11 and 12 are true, of which 11 goes with refusal 20
+pub add-infinite-first : Told 0x40 (doubles 0xffef_ffff_ffff_ffff 0x3ff0_0000_0000_0000) (doubles 0xffef_ffff_ffff_ffff 0x7ff0_0000_0000_0000) 4 17
+unfolding causeOf causesOf firstOf isInfinite
+add-infinite-first = (refl, refl)
+
+pub subtract-b-high : Told 0x41 (doubles 0x3ff0_0000_0000_0000 0x4000_0000_0000_0000) (doubles 0xffef_ffff_ffff_ffff 0x7ff0_0000_0000_0000) 4 17
+unfolding causeOf causesOf firstOf isInfinite
+subtract-b-high = (refl, refl)
+
+-- low - high, where low - low is finite
+pub subtract-low-overflows : Told 0x41 (doubles 0xffef_ffff_ffff_ffff 0x3ff0_0000_0000_0000) (doubles 0x3ff0_0000_0000_0000 0x7fef_ffff_ffff_ffff) 3 18
+unfolding causeOf causesOf firstOf sum difference negated rounded nearest parts encode above under magnitude isInfinite size span climb
+subtract-low-overflows = (refl, refl)
+
+pub subtract-high-overflows : Told 0x41 (doubles 0x3ff0_0000_0000_0000 0x7fef_ffff_ffff_ffff) (doubles 0xffef_ffff_ffff_ffff 0x3ff0_0000_0000_0000) 3 19
+unfolding causeOf causesOf firstOf sum difference negated rounded nearest parts encode above under magnitude isInfinite size span climb
+subtract-high-overflows = (refl, refl)
+
+pub multiply-high : Told 0x42 (doubles 0 0x7ff0_0000_0000_0000) (doubles 0 0) 3 15
+unfolding causeOf causesOf firstOf isInfinite
+multiply-high = (refl, refl)
+
+-- high * low, which is one of the four
+pub multiply-low-overflows : Told 0x42 (doubles 0x3ff0_0000_0000_0000 0x7fef_ffff_ffff_ffff) (doubles 0xc000_0000_0000_0000 0x3ff0_0000_0000_0000) 3 18
+unfolding causeOf causesOf firstOf product fmin fmax isNan isZero rounded nearest parts encode above under magnitude isInfinite size span climb
+multiply-low-overflows = (refl, refl)
+
+-- low * low
+pub multiply-high-overflows : Told 0x42 (doubles 0xc000_0000_0000_0000 0x3ff0_0000_0000_0000) (doubles 0xffef_ffff_ffff_ffff 0x3ff0_0000_0000_0000) 3 19
+unfolding causeOf causesOf firstOf product fmin fmax isNan isZero rounded nearest parts encode above under magnitude isInfinite size span climb
+multiply-high-overflows = (refl, refl)
+
+pub multiply-none : Told 0x42 (doubles 0xffef_ffff_ffff_ffff 0x7fef_ffff_ffff_ffff) (doubles 0xbff0_0000_0000_0000 0x3ff0_0000_0000_0000) 0 0
+unfolding causeOf causesOf firstOf product fmin fmax isNan isZero rounded nearest parts encode above under magnitude isInfinite size span climb
+multiply-none = (refl, refl)
 
 -- ---- nothing is told of a step that is not turned down
 

@@ -1,13 +1,13 @@
 -- Opcodes 02, 04, 18, 30 and 31 give whole numbers and all others doubles: of every completed run, each value has its step's kind. Assumes
 -- nothing.
 use mathlib.Core.Path.{_≡_, refl, sym, ap, _∙_}
-use mathlib.Core.Bool.{Bool, true, false, cond}
+use mathlib.Core.Bool.{Bool, true, false, _||_, cond}
 use mathlib.Core.List.{List, []}
 use Prim.Native.Nat.{ℕ, _^_, _<_}
 use lib.Dec.{eqb, leb}
 use lib.IntN.{natAbs, _+ℤ_, _-ℤ_}
 use lib.ListN.{length, getD, take}
-use Rattle.float_format.specs.Format.{binary64}
+use Rattle.float_format.specs.Format.{binary64, isInfinite}
 use Rattle.float_format.specs.Rounding.{lroundRefusal}
 use Rattle.remainder.specs.Remainder.{fmodRefusal}
 use Rattle.scaling.specs.Scaling.{ldexpRefusal}
@@ -19,7 +19,7 @@ use Rattle.recipe.specs.Text.{mostSteps, noStep, isUnknown}
 use Rattle.recipe.specs.Text as text
 use Rattle.recipe.specs.Answer.{Formed}
 use Rattle.recipe.proofs.Laws.{step-checked}
-use Rattle.semantics.specs.Value.{Datum, asDouble, asWhole, kindOf, Outcome, done, refused, fitsWord, ruleOf, stepValue}
+use Rattle.semantics.specs.Value.{Datum, double, asDouble, asWhole, kindOf, Outcome, done, refused, fitsWord, worked, ruleOf, stepValue}
 use Rattle.semantics.specs.Run.{completed, noValue, runFrom}
 use Rattle.semantics.proofs.Rules.{Unlisted, by-opcode}
 use Rattle.semantics.proofs.Worked.{run-worked}
@@ -34,6 +34,14 @@ Gives c (refused number) = Unit {0}
 either : (c : Kind) (b : Bool) (v : Datum) (number : ℕ) → kindOf v ≡ c → Gives c (cond b (done v) (refused number))
 either c true v number e = e
 either c false v number e = tt
+
+worked-double : (x y r : ℕ) → Gives Double (worked x y r)
+worked-double x y r = pick (isInfinite binary64 x || isInfinite binary64 y) (isInfinite binary64 r)
+  where
+    pick : (s t : Bool) → Gives Double (cond s (refused 20) (cond t (refused 21) (done (double r))))
+    pick true t = tt
+    pick false true = tt
+    pick false false = refl
 
 module _ (p w x y : ℕ) (a b : Datum) where
   abbrev Good : ℕ → Type 0
@@ -67,6 +75,9 @@ module _ (p w x y : ℕ) (a b : Datum) where
       (λ e. either Whole (fitsWord (asWhole a +ℤ asWhole b)) _ 21 refl)
       (λ e. either Whole (fitsWord (asWhole a -ℤ asWhole b)) _ 21 refl)
       (λ e. either Double (leb (natAbs (asWhole a)) (2 ^ 53)) _ 22 refl)
+      (λ e. worked-double x y _)
+      (λ e. worked-double x y _)
+      (λ e. worked-double x y _)
       good-other
       k
 

@@ -1,5 +1,5 @@
 -- Document 01's recipe with its whole sheet and its two frames, what demand 3 comes to of it, the range rules at their corners, and values of
--- remainder, by the definitions: claims that antt computes. Assumes nothing.
+-- remainder, add, subtract and multiply, by the definitions: claims that antt computes. Assumes nothing.
 use mathlib.Core.Path.{_≡_, refl, _∙_}
 use mathlib.Core.List.{List, [], _∷_, _++_, map}
 use Prim.Native.Nat.{ℕ}
@@ -14,6 +14,7 @@ use Rattle.ordering.specs.Ordering.{fmin, fmax}
 use Rattle.scaling.specs.Scaling.{scaled, ldexp, ldexpRefusal}
 use Rattle.remainder.specs.Remainder.{fmodRefusal}
 use Rattle.nearest_remainder.specs.Nearest.{remainder}
+use Rattle.arithmetic.specs.Arithmetic.{sum, difference, product}
 use Rattle.hex.specs.Hex.{digits, fieldOf, digitOf}
 use Rattle.recipe.specs.declared.Step.{Step}
 use Rattle.recipe.specs.Table.{rowOf}
@@ -130,7 +131,7 @@ of opcode a = rangeRule opcode 0 0 a (wholes (pos 0) (pos 0))
 abbrev of-two : ℕ → Range → Range → Ranged
 of-two opcode a b = rangeRule opcode 0 0 a b
 
--- -2, -1, 1, 2, -0, the infinities, 1 - 2^-53 and its negation
+-- -2, -1, 1, 2, -0, the infinities, the greatest finite number and its negation, 1 - 2^-53 and its negation
 abbrev m2 : ℕ
 m2 = 0xc000_0000_0000_0000
 
@@ -151,6 +152,12 @@ mInf = 0xfff0_0000_0000_0000
 
 abbrev pInf : ℕ
 pInf = 0x7ff0_0000_0000_0000
+
+abbrev pMost : ℕ
+pMost = 0x7fef_ffff_ffff_ffff
+
+abbrev mMost : ℕ
+mMost = 0xffef_ffff_ffff_ffff
 
 abbrev pUnder : ℕ
 pUnder = 0x3fef_ffff_ffff_ffff
@@ -219,10 +226,36 @@ corners =
     ∷ (of-two 0x31 (wholes (pos 0) (pos 5)) (wholes (pos 0) (pos 5)) gives ranged (wholes (negsuc 4) (pos 5)))
     ∷ (of 0x32 (wholes (negsuc 0) (pos 0x20_0000_0000_0000)) gives ranged (doubles m1 0x4340_0000_0000_0000))
     ∷ (of 0x32 (wholes (pos 0) (pos 0x20_0000_0000_0001)) gives refused 22)
+    -- add: low + low to high + high; opposites have the sum +0, and two -0 have -0; an infinite end of either operand, before an end that overflows; a low
+    -- and a high end that overflow
+    ∷ (of-two 0x40 (doubles m1 p1) (doubles p1 p2) gives ranged (doubles 0 0x4008_0000_0000_0000))
+    ∷ (of-two 0x40 (doubles m0 m0) (doubles m0 0) gives ranged (doubles m0 0))
+    ∷ (of-two 0x40 (doubles mMost pInf) (doubles mMost p1) gives refused 20)
+    ∷ (of-two 0x40 (doubles p1 p2) (doubles mInf p1) gives refused 20)
+    ∷ (of-two 0x40 (doubles mMost p1) (doubles mMost p1) gives refused 21)
+    ∷ (of-two 0x40 (doubles p1 pMost) (doubles p1 pMost) gives refused 21)
+    -- subtract: low - high to high - low; zeros; an infinite end; low - high overflows, where low - low does not
+    ∷ (of-two 0x41 (doubles p1 p2) (doubles p1 p2) gives ranged (doubles m1 p1))
+    ∷ (of-two 0x41 (doubles m0 0) (doubles 0 0) gives ranged (doubles m0 0))
+    ∷ (of-two 0x41 (doubles p1 p2) (doubles p1 pInf) gives refused 20)
+    ∷ (of-two 0x41 (doubles mMost p1) (doubles mMost pMost) gives refused 21)
+    -- multiply: low * high to low * low, and high * low to high * high; zeros of both signs, in whichever order the ends have them; an infinite end, also
+    -- by zero; each of the four products overflows
+    ∷ (of-two 0x42 (doubles m2 p1) (doubles m1 p2) gives ranged (doubles 0xc010_0000_0000_0000 p2))
+    ∷ (of-two 0x42 (doubles p1 p2) (doubles m1 p2) gives ranged (doubles m2 0x4010_0000_0000_0000))
+    ∷ (of-two 0x42 (doubles m0 0) (doubles p1 p1) gives ranged (doubles m0 0))
+    ∷ (of-two 0x42 (doubles 0 m0) (doubles p1 p1) gives ranged (doubles m0 0))
+    ∷ (of-two 0x42 (doubles m1 0) (doubles 0 p1) gives ranged (doubles m1 0))
+    ∷ (of-two 0x42 (doubles 0 pInf) (doubles 0 0) gives refused 20)
+    ∷ (of-two 0x42 (doubles 0 0) (doubles mInf 0) gives refused 20)
+    ∷ (of-two 0x42 (doubles m2 p1) (doubles mMost p1) gives refused 21)
+    ∷ (of-two 0x42 (doubles m2 p1) (doubles p1 pMost) gives refused 21)
+    ∷ (of-two 0x42 (doubles p1 p2) (doubles mMost p1) gives refused 21)
+    ∷ (of-two 0x42 (doubles p1 p2) (doubles p1 pMost) gives refused 21)
     ∷ []
 
 pub range-corners : map (λ (c : Case). c .given) corners ≡ map (λ (c : Case). c .stated) corners
-unfolding corners rangeRule integral parts wholePart lroundRefusal lroundValue fmin fmax nearest rounded scaled ldexp ldexpRefusal isNan isInfinite isZero quieted absolute negated magnitude encode above under size span climb
+unfolding corners rangeRule integral parts wholePart lroundRefusal lroundValue fmin fmax nearest rounded scaled ldexp ldexpRefusal sum difference product isNan isInfinite isZero quieted absolute negated magnitude encode above under size span climb
 range-corners = refl
 
 -- ---- remainder's values, which are not fmod's
@@ -250,3 +283,66 @@ pub remainder-values : remainderOf 0x4014_0000_0000_0000 0x4008_0000_0000_0000
     ∷ []
 unfolding ruleOf remainder fmodRefusal parts isNan isInfinite isZero quieted magnitude encode size span climb
 remainder-values = refl
+
+-- ---- values of add, subtract and multiply
+
+abbrev of-values : ℕ → ℕ → ℕ → Outcome
+of-values opcode x y = ruleOf opcode 0 0 x y (pos 0) (pos 0)
+
+-- 1 + 2; opposites; -0 + -0; 1 + 2^-53, a half of the last place, which goes to the even 1, and the number after 1, which goes up; an infinite operand,
+-- also where the other is its opposite; an infinite sum
+pub add-values : of-values 0x40 p1 p2
+    ∷ of-values 0x40 p1 m1
+    ∷ of-values 0x40 m0 m0
+    ∷ of-values 0x40 p1 0x3ca0_0000_0000_0000
+    ∷ of-values 0x40 0x3ff0_0000_0000_0001 0x3ca0_0000_0000_0000
+    ∷ of-values 0x40 p1 mInf
+    ∷ of-values 0x40 pInf mInf
+    ∷ of-values 0x40 pMost pMost
+    ∷ []
+    ≡ done (double 0x4008_0000_0000_0000)
+    ∷ done (double 0)
+    ∷ done (double m0)
+    ∷ done (double p1)
+    ∷ done (double 0x3ff0_0000_0000_0002)
+    ∷ value.refused 20
+    ∷ value.refused 20
+    ∷ value.refused 21
+    ∷ []
+unfolding ruleOf sum rounded nearest parts encode magnitude above under isInfinite size span climb
+add-values = refl
+
+-- 1 - 2; equal numbers; -0 - +0; an infinite operand; an infinite difference
+pub subtract-values : of-values 0x41 p1 p2
+    ∷ of-values 0x41 p1 p1
+    ∷ of-values 0x41 m0 0
+    ∷ of-values 0x41 pInf pInf
+    ∷ of-values 0x41 mMost pMost
+    ∷ []
+    ≡ done (double m1)
+    ∷ done (double 0)
+    ∷ done (double m0)
+    ∷ value.refused 20
+    ∷ value.refused 21
+    ∷ []
+unfolding ruleOf sum difference rounded nearest parts encode magnitude above under negated isInfinite size span climb
+subtract-values = refl
+
+-- -2 by 2; -1 by +0; 2^-1074 by 1 / 2, which is half of the smallest number and goes to zero, and three times as much, which goes to the even 2; zero by
+-- an infinity; an infinite product
+pub multiply-values : of-values 0x42 m2 p2
+    ∷ of-values 0x42 m1 0
+    ∷ of-values 0x42 1 0x3fe0_0000_0000_0000
+    ∷ of-values 0x42 3 0x3fe0_0000_0000_0000
+    ∷ of-values 0x42 0 pInf
+    ∷ of-values 0x42 pMost m2
+    ∷ []
+    ≡ done (double 0xc010_0000_0000_0000)
+    ∷ done (double m0)
+    ∷ done (double 0)
+    ∷ done (double 2)
+    ∷ value.refused 20
+    ∷ value.refused 21
+    ∷ []
+unfolding ruleOf product rounded nearest parts encode magnitude above under isInfinite size span climb
+multiply-values = refl

@@ -1,5 +1,5 @@
--- Why a step is turned down: for each opcode the facts that the sheet refuses it for, in the order of their codes (document 02, W-205).
--- Definitions only; assumes nothing.
+-- Why a step is turned down: for each opcode the facts that the sheet refuses it for, in the order of their codes (document 02, W-205, and W-208 for
+-- steps 40 to 42). Definitions only; assumes nothing.
 use mathlib.Core.Bool.{Bool, true, false, not, _||_, cond}
 use mathlib.Core.List.{List, [], _∷_}
 use Prim.Native.Nat.{ℕ, _^_}
@@ -11,7 +11,7 @@ use Rattle.scaling.specs.Scaling.{ldexpRefusal}
 use Rattle.recipe.specs.declared.Step.{Step}
 use Rattle.recipe.specs.Text.{first, second}
 use Rattle.semantics.specs.Value.{fitsWord}
-use Rattle.semantics.specs.Range.{Range, low, high, least, most, holdsZero, lowPower, highPower}
+use Rattle.semantics.specs.Range.{Range, low, high, least, most, holdsZero, lowPower, highPower, sumLow, sumHigh, differenceLow, differenceHigh, productLow, productHigh}
 
 -- which operand a code names
 pub data Named : Type 0 where
@@ -73,6 +73,17 @@ ldexpCauses a b =
 abbrev pub doubleCauses : Range → List Cause
 doubleCauses a = cause 0x0c ofA 22 (tooBig (least a)) ∷ cause 0x0d ofA 22 (tooBig (most a)) ∷ []
 
+-- 40 to 42, the answer's ends being l and h
+abbrev pub arithmeticCauses : Range → Range → ℕ → ℕ → List Cause
+arithmeticCauses a b l h =
+    cause 0x0e ofA 20 (isInfinite binary64 (low a))
+    ∷ cause 0x0f ofA 20 (isInfinite binary64 (high a))
+    ∷ cause 0x10 ofB 20 (isInfinite binary64 (low b))
+    ∷ cause 0x11 ofB 20 (isInfinite binary64 (high b))
+    ∷ cause 0x12 ofA 21 (isInfinite binary64 l)
+    ∷ cause 0x13 ofA 21 (isInfinite binary64 h)
+    ∷ []
+
 -- every other opcode is turned down for nothing
 unfoldable pub causesOf : ℕ → Range → Range → List Cause
 causesOf opcode a b =
@@ -82,7 +93,10 @@ causesOf opcode a b =
     (cond (eqb opcode 0x30) (wholeCauses (least a +ℤ least b) (most a +ℤ most b))
     (cond (eqb opcode 0x31) (wholeCauses (least a -ℤ most b) (most a -ℤ least b))
     (cond (eqb opcode 0x32) (doubleCauses a)
-    [])))))
+    (cond (eqb opcode 0x40) (arithmeticCauses a b (sumLow a b) (sumHigh a b))
+    (cond (eqb opcode 0x41) (arithmeticCauses a b (differenceLow a b) (differenceHigh a b))
+    (cond (eqb opcode 0x42) (arithmeticCauses a b (productLow a b) (productHigh a b))
+    []))))))))
 
 -- ---- the first that holds
 

@@ -1,5 +1,5 @@
--- The whole mark (document 02, W-203, and W-204 for step 24): which steps have values without a fraction, as far as their sheet tells. The marks
--- are a list beside the ranges. Definitions only; assumes nothing.
+-- The whole mark (document 02, W-203; W-204 for step 24, W-208 for 40 to 42): which steps have values without a fraction, as far as their sheet
+-- tells. The marks are a list beside the ranges. Definitions only; assumes nothing.
 use mathlib.Core.Bool.{Bool, true, false, not, _&&_, _||_, cond}
 use mathlib.Core.List.{List, [], _∷_, _++_}
 use Prim.Native.Nat.{ℕ}
@@ -33,8 +33,8 @@ markRule opcode r a b =
     (cond (within 0x10 0x14 opcode) (not (infiniteEnd r))
     -- 16, 17: fabs and negate keep it
     (cond (within 0x16 0x17 opcode) a
-    -- 20 to 22 and 24: fmin, fmax, fmod and remainder have it when both operands do; all others lack it
-    (cond (within 0x20 0x22 opcode || eqb opcode 0x24) (a && b) false))))
+    -- 20 to 22, 24 and 40 to 42: fmin, fmax, fmod, remainder, add, subtract and multiply have it when both operands do; all others lack it
+    (cond (within 0x20 0x22 opcode || eqb opcode 0x24 || within 0x40 0x42 opcode) (a && b) false))))
 
 -- ---- the marks of a recipe
 

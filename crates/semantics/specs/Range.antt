@@ -1,5 +1,5 @@
 -- A step's range from its operands' ranges, and refusals 20 to 22 as stated for the sheet (document 01, "Recipe text": range rules, and
--- "Turning text down"; step 24: document 02, W-204). Definitions only; assumes nothing.
+-- "Turning text down"; steps 24 and 40 to 42: document 02, W-204 and W-208). Definitions only; assumes nothing.
 use mathlib.Core.Bool.{Bool, not, _&&_, _||_, cond}
 use Prim.Native.Nat.{ℕ, _^_}
 use lib.Dec.{eqb, leb}
@@ -13,6 +13,7 @@ use Rattle.float_format.specs.declared.Direction.the-variants.{Down, Up, Toward
 use Rattle.float_format.specs.declared.Direction.{Direction}
 use Rattle.ordering.specs.Ordering.{fmin, fmax}
 use Rattle.scaling.specs.Scaling.{ldexp, ldexpRefusal}
+use Rattle.arithmetic.specs.Arithmetic.{sum, difference, product}
 use Rattle.recipe.specs.declared.Kind.{Kind}
 use Rattle.recipe.specs.declared.Kind.the-variants.{Double, Whole}
 use Rattle.recipe.specs.declared.Step.{Step}
@@ -159,6 +160,58 @@ abbrev pub doubleRange : Range → Ranged
 doubleRange a =
     cond (leb (natAbs (least a)) (2 ^ 53) && leb (natAbs (most a)) (2 ^ 53)) (ranged (doubles (ofWhole (least a)) (ofWhole (most a)))) (refused 22)
 
+-- 40 to 42, the answers' ends: low + low to high + high, ..
+abbrev pub sumLow : Range → Range → ℕ
+sumLow a b = sum binary64 (low a) (low b)
+
+abbrev pub sumHigh : Range → Range → ℕ
+sumHigh a b = sum binary64 (high a) (high b)
+
+-- .. low - high to high - low, ..
+abbrev pub differenceLow : Range → Range → ℕ
+differenceLow a b = difference binary64 (low a) (high b)
+
+abbrev pub differenceHigh : Range → Range → ℕ
+differenceHigh a b = difference binary64 (high a) (low b)
+
+-- .. and the fmin and the fmax of the four end products, whose order does not matter
+abbrev pub productLow : Range → Range → ℕ
+productLow a b =
+    fmin binary64 (fmin binary64 (product binary64 (low a) (low b)) (product binary64 (low a) (high b))) (fmin binary64 (product binary64 (high a) (low b)) (product binary64 (high a) (high b)))
+
+abbrev pub productHigh : Range → Range → ℕ
+productHigh a b =
+    fmax binary64 (fmax binary64 (product binary64 (low a) (low b)) (product binary64 (low a) (high b))) (fmax binary64 (product binary64 (high a) (low b)) (product binary64 (high a) (high b)))
+
+-- 40 to 42: refused with 20 for an infinite end of a or of b, then with 21 where an end's answer is infinite (over)
+abbrev pub workedRange : Range → Range → Bool → ℕ → ℕ → Ranged
+workedRange a b over l h = cond (infiniteEnd a || infiniteEnd b) (refused 20) (cond over (refused 21) (ranged (doubles l h)))
+
+-- 40
+abbrev pub infiniteSum : Range → Range → Bool
+infiniteSum a b = isInfinite binary64 (sumLow a b) || isInfinite binary64 (sumHigh a b)
+
+abbrev pub sumRange : Range → Range → Ranged
+sumRange a b = workedRange a b (infiniteSum a b) (sumLow a b) (sumHigh a b)
+
+-- 41
+abbrev pub infiniteDifference : Range → Range → Bool
+infiniteDifference a b = isInfinite binary64 (differenceLow a b) || isInfinite binary64 (differenceHigh a b)
+
+abbrev pub differenceRange : Range → Range → Ranged
+differenceRange a b = workedRange a b (infiniteDifference a b) (differenceLow a b) (differenceHigh a b)
+
+-- 42: any of the four end products
+abbrev pub infiniteProduct : Range → Range → Bool
+infiniteProduct a b =
+    isInfinite binary64 (product binary64 (low a) (low b))
+    || isInfinite binary64 (product binary64 (low a) (high b))
+    || isInfinite binary64 (product binary64 (high a) (low b))
+    || isInfinite binary64 (product binary64 (high a) (high b))
+
+abbrev pub productRange : Range → Range → Ranged
+productRange a b = workedRange a b (infiniteProduct a b) (productLow a b) (productHigh a b)
+
 -- by the opcode: p and q are the step's P and Q, a and b its operands' ranges
 unfoldable pub rangeRule : ℕ → ℕ → ℕ → Range → Range → Ranged
 rangeRule opcode p q a b =
@@ -183,7 +236,10 @@ rangeRule opcode p q a b =
     (cond (eqb opcode 0x30) (wholeRange (least a +ℤ least b) (most a +ℤ most b))
     (cond (eqb opcode 0x31) (wholeRange (least a -ℤ most b) (most a -ℤ least b))
     (cond (eqb opcode 0x32) (doubleRange a)
-    (ranged (wholes (pos 0) (pos 0)))))))))))))))))))))))
+    (cond (eqb opcode 0x40) (sumRange a b)
+    (cond (eqb opcode 0x41) (differenceRange a b)
+    (cond (eqb opcode 0x42) (productRange a b)
+    (ranged (wholes (pos 0) (pos 0))))))))))))))))))))))))))
 
 -- a step t's range, a and b being its operands' ranges
 unfoldable pub stepRange : Step → Range → Range → Ranged

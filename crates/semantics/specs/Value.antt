@@ -1,13 +1,13 @@
--- A step's value from its operands' values, and refusals 20 to 22 (document 01, "Recipe text" and "The terms of demand 3"; step 24: document 02,
--- W-204). Definitions only; assumes nothing.
-use mathlib.Core.Bool.{Bool, not, cond}
+-- A step's value from its operands' values, and refusals 20 to 22 (document 01, "Recipe text" and "The terms of demand 3"; steps 24 and 40 to 42:
+-- document 02, W-204 and W-208). Definitions only; assumes nothing.
+use mathlib.Core.Bool.{Bool, not, _||_, cond}
 use Prim.Native.Nat.{ℕ, _*_, _^_}
 use lib.Dec.{ltb, leb, eqb}
 use lib.IntN.{ℤ, pos, natAbs, _+ℤ_, _-ℤ_}
 use lib.Signed.{mag, nonNeg}
 use mir.Syntax.{w64}
 use mir.Val.{toZ, ofZ}
-use Rattle.float_format.specs.Format.{binary64, signed, absolute, negated}
+use Rattle.float_format.specs.Format.{binary64, isInfinite, signed, absolute, negated}
 use Rattle.float_format.specs.Number.{encode, one}
 use Rattle.float_format.specs.Rounding.{integral, lroundRefusal, lroundValue}
 use Rattle.float_format.specs.declared.Direction.the-variants.{Down, Up, TowardZero, HalfAway, HalfEven}
@@ -15,6 +15,7 @@ use Rattle.splitting.specs.Splitting.{modfFraction}
 use Rattle.ordering.specs.Ordering.{fmin, fmax}
 use Rattle.remainder.specs.Remainder.{fmod, fmodRefusal}
 use Rattle.nearest_remainder.specs.Nearest.{remainder}
+use Rattle.arithmetic.specs.Arithmetic.{sum, difference, product}
 use Rattle.scaling.specs.Scaling.{ldexp, ldexpRefusal}
 use Rattle.recipe.specs.declared.Kind.{Kind}
 use Rattle.recipe.specs.declared.Kind.the-variants.{Double, Whole}
@@ -61,6 +62,10 @@ fitsWord z = ltb (mag z) (2 ^ 63)
 abbrev pub ofWhole : ℤ → ℕ
 ofWhole z = signed binary64 (not (nonNeg z)) (encode 52 (natAbs z * one binary64))
 
+-- 40 to 42, of the operands x and y and the answer r: refused for an infinite operand, then for an infinite answer
+abbrev pub worked : ℕ → ℕ → ℕ → Outcome
+worked x y r = cond (isInfinite binary64 x || isInfinite binary64 y) (refused 20) (cond (isInfinite binary64 r) (refused 21) (done (double r)))
+
 -- by the opcode: p is the step's P, w the frame's word for it where it is an input, x and y its operands as doubles, m and n as whole
 -- numbers
 unfoldable pub ruleOf : ℕ → ℕ → ℕ → ℕ → ℕ → ℤ → ℤ → Outcome
@@ -86,7 +91,10 @@ ruleOf opcode p w x y m n =
     (cond (eqb opcode 0x30) (cond (fitsWord (m +ℤ n)) (done (whole (m +ℤ n))) (refused 21))
     (cond (eqb opcode 0x31) (cond (fitsWord (m -ℤ n)) (done (whole (m -ℤ n))) (refused 21))
     (cond (eqb opcode 0x32) (cond (leb (natAbs m) (2 ^ 53)) (done (double (ofWhole m))) (refused 22))
-    (done (whole (pos 0)))))))))))))))))))))))
+    (cond (eqb opcode 0x40) (worked x y (sum binary64 x y))
+    (cond (eqb opcode 0x41) (worked x y (difference binary64 x y))
+    (cond (eqb opcode 0x42) (worked x y (product binary64 x y))
+    (done (whole (pos 0))))))))))))))))))))))))))
 
 -- a step t's value, a and b being its operands' values
 unfoldable pub stepValue : Step → ℕ → Datum → Datum → Outcome

@@ -17,12 +17,14 @@ use Rattle.float_format.proofs.Order.{at-most-refl}
 use Rattle.float_format.proofs.Integers.{finite-integer, integer-absolute, integer-negated, integer-equal}
 use Rattle.ordering.specs.Ordering.{fmin, fmax}
 use Rattle.ordering.proofs.MinMax.{fmin-integral, fmax-integral}
+use Rattle.arithmetic.specs.Arithmetic.{product}
+use Rattle.arithmetic.proofs.Laws.{sum-integral, difference-integral, product-integral}
 use Rattle.recipe.specs.declared.Step.{Step}
 use Rattle.recipe.specs.Table.{rowOf}
 use Rattle.recipe.specs.Text.{noStep, mostSteps, first, second, badRange, doubleAbove}
 use Rattle.recipe.specs.Answer.{Formed}
 use Rattle.semantics.specs.Value.{ofWhole}
-use Rattle.semantics.specs.Range.{Range, doubles, wholes, low, high, least, most, isNegative, isPositive, infiniteEnd, holdsZero, bothEnds, absoluteRange, greatest, fmodLow, fmodHigh, remainderMost, doubleRange, ranged, refused, rangeRule, stepRange}
+use Rattle.semantics.specs.Range.{Range, doubles, wholes, low, high, least, most, isNegative, isPositive, infiniteEnd, holdsZero, bothEnds, absoluteRange, greatest, fmodLow, fmodHigh, remainderMost, doubleRange, sumLow, sumHigh, differenceLow, differenceHigh, productLow, productHigh, infiniteSum, infiniteDifference, infiniteProduct, workedRange, ranged, refused, rangeRule, stepRange}
 use Rattle.semantics.specs.Sheet.{passed, noRange, sheetFrom}
 use Rattle.semantics.specs.Mark.{noMark, markRule, marksOf}
 use Rattle.semantics.specs.Promise.{Proper}
@@ -99,6 +101,39 @@ module _ (a b : Range) (w : WholeEnds a) (v : WholeEnds b) where
       let g : Whole (remainderMost a b) = fmin-integral binary64 (greatest a) (greatest b) (greatest-whole a w) (greatest-whole b v) in
       whole-ends (negated binary64 m) m (integer-negated binary64 m ∙ g) g
 
+  -- add and subtract, where neither end is infinite
+  sum-ends : infiniteSum a b ≡ false → WholeEnds (doubles (sumLow a b) (sumHigh a b))
+  sum-ends e =
+      let p = no-or (isInfinite binary64 (sumLow a b)) (isInfinite binary64 (sumHigh a b)) e in
+      whole-ends (sumLow a b) (sumHigh a b)
+      (sum-integral binary64 valid (low a) (low b) (w .low-end) (v .low-end) (p .0))
+      (sum-integral binary64 valid (high a) (high b) (w .high-end) (v .high-end) (p .1))
+
+  difference-ends : infiniteDifference a b ≡ false → WholeEnds (doubles (differenceLow a b) (differenceHigh a b))
+  difference-ends e =
+      let p = no-or (isInfinite binary64 (differenceLow a b)) (isInfinite binary64 (differenceHigh a b)) e in
+      whole-ends (differenceLow a b) (differenceHigh a b)
+      (difference-integral binary64 valid (low a) (high b) (w .low-end) (v .high-end) (p .0))
+      (difference-integral binary64 valid (high a) (low b) (w .high-end) (v .low-end) (p .1))
+
+  -- multiply, where no end product is infinite
+  product-ends : infiniteProduct a b ≡ false → WholeEnds (doubles (productLow a b) (productHigh a b))
+  product-ends e =
+      let k : ℕ = product binary64 (low a) (low b) in
+      let l : ℕ = product binary64 (low a) (high b) in
+      let m : ℕ = product binary64 (high a) (low b) in
+      let n : ℕ = product binary64 (high a) (high b) in
+      let p = no-or (isInfinite binary64 k || isInfinite binary64 l || isInfinite binary64 m) (isInfinite binary64 n) e in
+      let q = no-or (isInfinite binary64 k || isInfinite binary64 l) (isInfinite binary64 m) (p .0) in
+      let r = no-or (isInfinite binary64 k) (isInfinite binary64 l) (q .0) in
+      let hk : Whole k = product-integral binary64 valid (low a) (low b) (w .low-end) (v .low-end) (r .0) in
+      let hl : Whole l = product-integral binary64 valid (low a) (high b) (w .low-end) (v .high-end) (r .1) in
+      let hm : Whole m = product-integral binary64 valid (high a) (low b) (w .high-end) (v .low-end) (q .1) in
+      let hn : Whole n = product-integral binary64 valid (high a) (high b) (w .high-end) (v .high-end) (p .1) in
+      whole-ends (productLow a b) (productHigh a b)
+      (fmin-integral binary64 (fmin binary64 k l) (fmin binary64 m n) (fmin-integral binary64 k l hk hl) (fmin-integral binary64 m n hm hn))
+      (fmax-integral binary64 (fmax binary64 k l) (fmax binary64 m n) (fmax-integral binary64 k l hk hl) (fmax-integral binary64 m n hm hn))
+
 -- ---- one step, of a range of doubles
 
 module _ (t : Step) (a b : Range) (l h : ℕ) (ma mb : Bool) (nl : isNan binary64 l ≡ false) (nh : isNan binary64 h ≡ false)
@@ -155,6 +190,16 @@ module _ (t : Step) (a b : Range) (l h : ℕ) (ma mb : Bool) (nl : isNan binary6
       pick true g = never (cc)
       pick false g = two (λ w v. these r (f w v) g) m
 
+  -- 40 to 42: of a range that may be refused for an infinite end of the answer too
+  computed : (over : Bool) (s t : ℕ) → (WholeEnds a → WholeEnds b → over ≡ false → WholeEnds (doubles s t)) → workedRange a b over s t ≡ ranged (doubles l h)
+      → (ma && mb) ≡ true → WholeEnds (doubles l h)
+  computed over s t f e m = pick (infiniteEnd a || infiniteEnd b) over refl e
+    where
+      pick : (u v : Bool) → over ≡ v → cond u (refused 20) (cond v (refused 21) (ranged (doubles s t))) ≡ ranged (doubles l h) → WholeEnds (doubles l h)
+      pick true v k g = never (cc)
+      pick false true k g = never (cc)
+      pick false false k g = two (λ w v. these (doubles s t) (f w v k) g) m
+
   as-double : doubleRange a ≡ ranged (doubles l h) → WholeEnds (doubles l h)
   as-double e = pick (leb (natAbs (least a)) (2 ^ 53) && leb (natAbs (most a)) (2 ^ 53)) refl e
     where
@@ -192,6 +237,9 @@ module _ (t : Step) (a b : Range) (l h : ℕ) (ma mb : Bool) (nl : isNan binary6
       (λ d e m. never (sym m))
       (λ d e m. never (sym m))
       (λ d e m. as-double e)
+      (λ d e m. computed (infiniteSum a b) (sumLow a b) (sumHigh a b) (sum-ends a b) e m)
+      (λ d e m. computed (infiniteDifference a b) (differenceLow a b) (differenceHigh a b) (difference-ends a b) e m)
+      (λ d e m. computed (infiniteProduct a b) (productLow a b) (productHigh a b) (product-ends a b) e m)
       good-other
       k
 

@@ -18,10 +18,10 @@ use Rattle.recipe.specs.declared.Step.{Step}
 use Rattle.recipe.specs.Table.{rowOf, answerKind}
 use Rattle.recipe.specs.Text.{isUnknown}
 use Rattle.recipe.specs.Text as text
-use Rattle.recipe.proofs.Rows.{before-10, before-20, before-30, after-32}
+use Rattle.recipe.proofs.Rows.{before-10, before-20, before-30, before-40, after-42}
 use Rattle.semantics.specs.Value.{Datum, double, whole, fitsWord}
 use Rattle.semantics.specs.Value as value
-use Rattle.semantics.specs.Range.{Range, doubles, wholes, low, high, least, most, isNegative, isPositive, absoluteRange, lroundRange, holdsZero, infiniteEnd, fmodRange, lowPower, highPower, ldexpRange, remainderRange, wholeRange, doubleRange, Ranged, ranged, rangeRule, stepRange}
+use Rattle.semantics.specs.Range.{Range, doubles, wholes, low, high, least, most, isNegative, isPositive, absoluteRange, lroundRange, holdsZero, infiniteEnd, fmodRange, lowPower, highPower, ldexpRange, remainderRange, wholeRange, doubleRange, sumLow, sumHigh, differenceLow, differenceHigh, productLow, productHigh, workedRange, infiniteSum, infiniteDifference, infiniteProduct, Ranged, ranged, rangeRule, stepRange}
 use Rattle.semantics.specs.Range as range
 use Rattle.semantics.specs.Promise.{Lies}
 use Rattle.semantics.proofs.Rules.{Unlisted, Absent, absent, by-opcode}
@@ -57,7 +57,7 @@ past k c l n = let d : k ≡ c → ⊥ = eqb-false k c n in omega arith
 pub unlisted-row : (k : ℕ) → Unlisted k → rowOf k ≡ Unknown
 unlisted-row k h =
     ⊎-elim (λ l. before-10 k l (eqb-false k 0x01 (n .no-01)) (eqb-false k 0x02 (n .no-02)) (eqb-false k 0x03 (n .no-03)) (eqb-false k 0x04 (n .no-04)))
-    (λ g. ⊎-elim (λ l. before-20 k (from-16 g) l) (λ g. ⊎-elim (λ l. before-30 k (from-32 g) l) (λ g. after-32 k (from-48 g)) (lt-or-ge k 0x30)) (lt-or-ge k 0x20))
+    (λ g. ⊎-elim (λ l. before-20 k (from-16 g) l) (λ g. ⊎-elim (λ l. before-30 k (from-32 g) l) (λ g. ⊎-elim (λ l. before-40 k (from-48 g) l) (λ g. after-42 k (from-64 g)) (lt-or-ge k 0x40)) (lt-or-ge k 0x30)) (lt-or-ge k 0x20))
     (lt-or-ge k 0x10)
   where
     n : Absent k
@@ -71,6 +71,9 @@ unlisted-row k h =
 
     from-48 : 0x30 ≤ k → 0x32 < k
     from-48 g = past k 0x32 (past k 0x31 (past k 0x30 g (n .no-30)) (n .no-31)) (n .no-32)
+
+    from-64 : 0x40 ≤ k → 0x42 < k
+    from-64 g = past k 0x42 (past k 0x41 (past k 0x40 g (n .no-40)) (n .no-41)) (n .no-42)
 
 module _ (p q : ℕ) (a b : Range) where
   abbrev Good : ℕ → Type 0
@@ -94,6 +97,10 @@ module _ (p q : ℕ) (a b : Range) where
 
   double-kind : HasKind Double (doubleRange a)
   double-kind = either Double (leb (natAbs (least a)) (2 ^ 53) && leb (natAbs (most a)) (2 ^ 53)) _ (range.refused 22) refl tt
+
+  worked-kind : (over : Bool) (l h : ℕ) → HasKind Double (workedRange a b over l h)
+  worked-kind over l h =
+      either Double (infiniteEnd a || infiniteEnd b) (range.refused 20) _ tt (either Double over (range.refused 21) (ranged (doubles l h)) tt refl)
 
   absolute-kind : HasKind Double (ranged (absoluteRange a))
   absolute-kind = three (isNegative (low a)) (isPositive (high a)) _ _ _ _ _ _
@@ -126,6 +133,9 @@ module _ (p q : ℕ) (a b : Range) where
       (λ e. whole-kind (least a +ℤ least b) (most a +ℤ most b))
       (λ e. whole-kind (least a -ℤ most b) (most a -ℤ least b))
       (λ e. double-kind)
+      (λ e. worked-kind (infiniteSum a b) (sumLow a b) (sumHigh a b))
+      (λ e. worked-kind (infiniteDifference a b) (differenceLow a b) (differenceHigh a b))
+      (λ e. worked-kind (infiniteProduct a b) (productLow a b) (productHigh a b))
       good-other
       k
 

@@ -23,9 +23,11 @@ use Rattle.remainder.specs.Remainder.{fmod, fmodRefusal}
 use Rattle.remainder.proofs.Laws.{fmod-integral}
 use Rattle.nearest_remainder.specs.Nearest.{remainder}
 use Rattle.nearest_remainder.proofs.Laws.{remainder-integral}
+use Rattle.arithmetic.specs.Arithmetic.{sum, difference, product}
+use Rattle.arithmetic.proofs.Laws.{sum-integral, difference-integral, product-integral}
 use Rattle.recipe.specs.declared.Step.{Step}
 use Rattle.recipe.specs.Text.{noStep, inputsIn, first, second}
-use Rattle.semantics.specs.Value.{Datum, double, whole, asDouble, asWhole, done, refused, ofWhole, ruleOf, stepValue}
+use Rattle.semantics.specs.Value.{Datum, double, whole, asDouble, asWhole, done, refused, ofWhole, worked, ruleOf, stepValue}
 use Rattle.semantics.specs.Range.{Range, doubles, wholes}
 use Rattle.semantics.specs.Run.{noValue}
 use Rattle.semantics.specs.Sheet.{noRange}
@@ -75,6 +77,11 @@ accepted : (s : Bool) (v u : Datum) (number : ℕ) → cond s (done v) (refused 
 accepted true v u number e = (refl, cc)
 accepted false v u number e = never (cc)
 
+worked-done : (s t : Bool) (r x : ℕ) → cond s (refused 20) (cond t (refused 21) (done (double r))) ≡ done (double x) → (t ≡ false) × (r ≡ x)
+worked-done true t r x e = never (cc)
+worked-done false true r x e = never (cc)
+worked-done false false r x e = (refl, cc)
+
 module _ (t : Step) (w : ℕ) (a b : Datum) (l h x : ℕ) (ma mb : Bool) (i : Between l h x) (wa : ma ≡ true → Integral a) (wb : mb ≡ true → Integral b) where
   abbrev Good : ℕ → Type 0
   Good k = ruleOf k (t .p) w (asDouble a) (asDouble b) (asWhole a) (asWhole b) ≡ done (double x) → markRule k (doubles l h) ma mb ≡ true → isIntegral binary64 x ≡ true
@@ -123,6 +130,15 @@ module _ (t : Step) (w : ℕ) (a b : Datum) (l h x : ℕ) (ma mb : Bool) (i : Be
       let p : (ma ≡ true) × (mb ≡ true) = both ma mb m in
       rw q at (keeps (asDouble a) (asDouble b) (operand a (wa (p .0))) (operand b (wb (p .1))) (eqb-true (fmodRefusal binary64 (asDouble a) (asDouble b)) 0 (g .0)))
 
+  -- 40 to 42: the same, of answers that are not infinite
+  computed : (f : ℕ → ℕ → ℕ)
+      → ((y z : ℕ) → isIntegral binary64 y ≡ true → isIntegral binary64 z ≡ true → isInfinite binary64 (f y z) ≡ false → isIntegral binary64 (f y z) ≡ true)
+      → worked (asDouble a) (asDouble b) (f (asDouble a) (asDouble b)) ≡ done (double x) → (ma && mb) ≡ true → isIntegral binary64 x ≡ true
+  computed f keeps e m =
+      let g = worked-done (isInfinite binary64 (asDouble a) || isInfinite binary64 (asDouble b)) (isInfinite binary64 (f (asDouble a) (asDouble b))) (f (asDouble a) (asDouble b)) x e in
+      let p : (ma ≡ true) × (mb ≡ true) = both ma mb m in
+      rw (g .1) at (keeps (asDouble a) (asDouble b) (operand a (wa (p .0))) (operand b (wb (p .1))) (g .0))
+
   as-double : cond (leb (natAbs (asWhole a)) (2 ^ 53)) (done (double (ofWhole (asWhole a)))) (refused 22) ≡ done (double x) → isIntegral binary64 x ≡ true
   as-double e =
       let g = accepted (leb (natAbs (asWhole a)) (2 ^ 53)) _ (double x) 22 e in
@@ -154,6 +170,9 @@ module _ (t : Step) (w : ℕ) (a b : Datum) (l h x : ℕ) (ma mb : Bool) (i : Be
       (λ e m. never (sym m))
       (λ e m. never (sym m))
       (λ e m. as-double e)
+      (computed (sum binary64) (sum-integral binary64 valid))
+      (computed (difference binary64) (difference-integral binary64 valid))
+      (computed (product binary64) (product-integral binary64 valid))
       good-other
       k
 

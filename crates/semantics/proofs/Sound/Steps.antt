@@ -26,6 +26,7 @@ use Rattle.semantics.proofs.Sound.Lround.{lround-kept}
 use Rattle.semantics.proofs.Sound.Scaled.{ldexp-kept}
 use Rattle.semantics.proofs.Sound.Nearest.{remainder-kept}
 use Rattle.semantics.proofs.Sound.Doubles.{double-kept}
+use Rattle.semantics.proofs.Sound.Arithmetic.{add-kept, subtract-kept, multiply-kept}
 
 -- ---- by the opcode
 
@@ -78,6 +79,9 @@ module _ (t : Step) (w : ℕ) (r s : Range) (a b : Datum) (la : Lies r a) (lb : 
       (λ e g. whole-kept (sum m n))
       (λ e g. whole-kept (difference m n))
       (λ e g. double-kept m)
+      (λ e g. add-kept x y)
+      (λ e g. subtract-kept x y)
+      (λ e g. multiply-kept x y)
       good-other
       k
 
