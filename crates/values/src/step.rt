@@ -1,17 +1,19 @@
-// The step rules: a step's value from its operands' values (document 01, "Recipe text", and step 24 of document 02, W-204), and refusals 20 to 22.
+// The step rules: a step's value from its operands' values (document 01, "Recipe text"; steps 24 and 40 to 42: document 02, W-204 and W-208), and
+// refusals 20 to 22.
 ghost use mathlib.Core.Path.{_≡_};
 ghost use mathlib.Core.Bool.{cond};
 ghost use Prim.Native.Nat.{_^_, _≤_};
 ghost use lib.Dec.{eqb, leb};
 ghost use lib.IntN.{natAbs, _+ℤ_, _-ℤ_};
 ghost use lib.Signed.{mag, nonNeg};
-ghost use Rattle.float_format.specs.Format.{binary64};
+ghost use Rattle.float_format.specs.Format.{binary64, isInfinite};
 ghost use Rattle.float_format.specs.Rounding.{lroundRefusal, lroundValue};
 ghost use Rattle.splitting.specs.Splitting.{modfFraction};
 ghost use Rattle.remainder.specs.Remainder.{fmod, fmodRefusal};
 ghost use Rattle.nearest_remainder.specs.Nearest.{remainder};
 ghost use Rattle.scaling.specs.Scaling.{ldexp, ldexpRefusal};
-ghost use Rattle.semantics.specs.Value.{whole, done, refused, fitsWord, ofWhole, stepValue};
+ghost use Rattle.arithmetic.specs.Arithmetic.{sum, difference, product};
+ghost use Rattle.semantics.specs.Value.{whole, done, refused, fitsWord, ofWhole, worked, stepValue};
 ghost use Rattle.values.specs.Carried.{real, carried};
 ghost use Rattle.values.specs.Seen.{Real, seen, outcomeOf, RealOutcome};
 use super::Outcome;
@@ -21,6 +23,7 @@ use float_format::width::encoded;
 use recipe::Step;
 use rounding::binary64;
 use splitting::Modf64;
+use steps::any;
 use twos_complement::signed;
 
 // ---- whole numbers by their magnitudes
@@ -195,6 +198,48 @@ pub fn double_of(z: i64) -> Outcome
     Outcome::Refused(22)
 }
 
+// ---- doubles that are not infinite
+
+pub fn is_infinite(x: u64) -> bool
+    ensures { λ r. ⌜ r ≡ isInfinite binary64 x ⌝ }
+{
+    x % Binary64::SIGN == Binary64::INFINITY
+}
+
+// 40 to 42: the answer r of x and y, where none of the three is infinite.
+fn worked(x: u64, y: u64, r: u64) -> Outcome
+    ensures { λ o. ⌜ (outcomeOf o ≡ carried (worked x y r)) × RealOutcome o ⌝ }
+{
+    if any(is_infinite(x), is_infinite(y)) {
+        return Outcome::Refused(20);
+    }
+    if is_infinite(r) {
+        return Outcome::Refused(21);
+    }
+    real_of(r)
+}
+
+// 40
+fn add_of(x: u64, y: u64) -> Outcome
+    ensures { λ r. ⌜ (outcomeOf r ≡ carried (worked x y (sum binary64 x y))) × RealOutcome r ⌝ }
+{
+    worked(x, y, integer_arithmetic::binary64::sum(x, y))
+}
+
+// 41
+fn subtract_of(x: u64, y: u64) -> Outcome
+    ensures { λ r. ⌜ (outcomeOf r ≡ carried (worked x y (difference binary64 x y))) × RealOutcome r ⌝ }
+{
+    worked(x, y, integer_arithmetic::binary64::difference(x, y))
+}
+
+// 42
+fn multiply_of(x: u64, y: u64) -> Outcome
+    ensures { λ r. ⌜ (outcomeOf r ≡ carried (worked x y (product binary64 x y))) × RealOutcome r ⌝ }
+{
+    worked(x, y, integer_arithmetic::binary64::product(x, y))
+}
+
 // The value of the step t, as a float carries it, w being the frame's word for it where it is an input, a and b its operands' values.
 pub fn step_value(t: Step, w: u64, a: Value, b: Value) -> Outcome
     requires { ⌜ Real a × Real b ⌝ }
@@ -228,6 +273,9 @@ pub fn step_value(t: Step, w: u64, a: Value, b: Value) -> Outcome
         0x30 => sum_of(m, n),
         0x31 => difference_of(m, n),
         0x32 => double_of(m),
+        0x40 => add_of(x, y),
+        0x41 => subtract_of(x, y),
+        0x42 => multiply_of(x, y),
         _ => whole_of(0),
     }
 }

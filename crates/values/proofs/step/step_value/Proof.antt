@@ -146,6 +146,15 @@ difference-of-requires c κs = search needs
 double-of-requires : tie.Need-double-of-requires
 double-of-requires c κs = search needs
 
+add-of-requires : tie.Need-add-of-requires
+add-of-requires c κs = search needs
+
+subtract-of-requires : tie.Need-subtract-of-requires
+subtract-of-requires c κs = search needs
+
+multiply-of-requires : tie.Need-multiply-of-requires
+multiply-of-requires c κs = search needs
+
 whole-of-requires-3 : tie.Need-whole-of-requires-3
 whole-of-requires-3 c κs = search needs
 
@@ -248,7 +257,19 @@ returns-21 c =
     (c .double-of .ensures .0 ∙ carried-cond (leb (natAbs (toZ w64 (ofZ w64 (d .before .whole .result)))) (2 ^ 53)) (double (ofWhole (toZ w64 (ofZ w64 (d .before .whole .result))))) 22 ∙ carried-arm d (c .before .match .keys21), c .double-of .ensures .1)
 
 returns-22 : tie.Need-returns-22
-returns-22 c = (c .whole-of3 .ensures .0 ∙ ap carried (unlisted _ _ _ _ _ _ _ (c .before .match .rest) ∙ arm (c .before .before) refl), c .whole-of3 .ensures .1)
+unfolding ruleOf
+returns-22 c = (c .add-of .ensures .0 ∙ carried-arm (c .before .before) (c .before .match .keys22), c .add-of .ensures .1)
+
+returns-23 : tie.Need-returns-23
+unfolding ruleOf
+returns-23 c = (c .subtract-of .ensures .0 ∙ carried-arm (c .before .before) (c .before .match .keys23), c .subtract-of .ensures .1)
+
+returns-24 : tie.Need-returns-24
+unfolding ruleOf
+returns-24 c = (c .multiply-of .ensures .0 ∙ carried-arm (c .before .before) (c .before .match .keys24), c .multiply-of .ensures .1)
+
+returns-25 : tie.Need-returns-25
+returns-25 c = (c .whole-of3 .ensures .0 ∙ ap carried (unlisted _ _ _ _ _ _ _ (c .before .match .rest) ∙ arm (c .before .before) refl), c .whole-of3 .ensures .1)
 
 pub step-value-spec : {M : Type 1} → statement M
 step-value-spec =
@@ -290,6 +311,9 @@ step-value-spec =
     sum-of-requires
     difference-of-requires
     double-of-requires
+    add-of-requires
+    subtract-of-requires
+    multiply-of-requires
     whole-of-requires-3
     returns
     returns-2
@@ -312,4 +336,7 @@ step-value-spec =
     returns-19
     returns-20
     returns-21
-    returns-22)
+    returns-22
+    returns-23
+    returns-24
+    returns-25)
