@@ -1,5 +1,5 @@
 -- Ranges by their two ends, in the shape in which the range rules' functions make them. Assumes nothing.
-use mathlib.Core.Path.{_≡_, refl}
+use mathlib.Core.Path.{_≡_, refl, sym, ap}
 use mathlib.Core.Bool.{Bool, true, false, not, _&&_, _||_, cond}
 use Prim.Native.Nat.{ℕ, _^_}
 use lib.Dec.{eqb, leb}
@@ -10,7 +10,8 @@ use Rattle.scaling.specs.Scaling.{ldexp, ldexpRefusal}
 use Rattle.semantics.specs.Value.{whole, Outcome, done, fitsWord, ofWhole}
 use Rattle.values.specs.Carried.{real}
 use Rattle.semantics.specs.Value as value
-use Rattle.semantics.specs.Range.{Range, doubles, wholes, Ranged, ranged, refused, low, high, least, most, isNegative, isPositive, infiniteEnd, holdsZero, greatest, fmodLow, fmodHigh, fmodRange, ldexpRange, remainderMost, remainderRange, lroundRange, wholeRange, doubleRange}
+use Rattle.semantics.specs.Range.{Range, doubles, wholes, Ranged, ranged, refused, low, high, least, most, isNegative, isPositive, infiniteEnd, holdsZero, greatest, fmodLow, fmodHigh, fmodRange, ldexpRange, remainderMost, remainderRange, workedRange, productLow, productHigh, productRange, lroundRange, wholeRange, doubleRange}
+use Rattle.semantics.proofs.Sound.Products.{infinite-products}
 use Rattle.ranges.specs.Carried.{between, carried}
 
 -- ---- two ends, each refused by a test of its own
@@ -97,3 +98,19 @@ module _ (a b : Range) where
   pub remainder-ranged : (infiniteEnd a || holdsZero b) ≡ false
       → carried (ranged (doubles (negated binary64 (remainderMost a b)) (remainderMost a b))) ≡ carried (remainderRange a b)
   remainder-ranged e = passed-by (infiniteEnd a || holdsZero b) (doubles (negated binary64 (remainderMost a b)) (remainderMost a b)) e
+
+-- ---- add, subtract and multiply, by their two tests
+
+module _ (a b : Range) (over : Bool) (l h : ℕ) where
+  pub worked-infinite : (infiniteEnd a || infiniteEnd b) ≡ true → refused 20 ≡ carried (workedRange a b over l h)
+  worked-infinite e = rw e
+
+  pub worked-over : (infiniteEnd a || infiniteEnd b) ≡ false → over ≡ true → refused 21 ≡ carried (workedRange a b over l h)
+  worked-over e g = rw (e, g)
+
+  pub worked-ranged : (infiniteEnd a || infiniteEnd b) ≡ false → over ≡ false → carried (ranged (doubles l h)) ≡ carried (workedRange a b over l h)
+  worked-ranged e g = rw (e, g)
+
+-- the code tests multiply's answers, and the rule all four end products
+pub product-ranged : (a b : Range) → carried (workedRange a b (infiniteEnd (doubles (productLow a b) (productHigh a b))) (productLow a b) (productHigh a b)) ≡ carried (productRange a b)
+product-ranged a b = ap (λ (t : Bool). carried (workedRange a b t (productLow a b) (productHigh a b))) (sym (infinite-products a b))

@@ -1,16 +1,20 @@
-// The range rules: a step's range from its operands' ranges (document 01, "Recipe text", and step 24 of document 02, W-204), and refusals 20 to 22
-// as stated for the sheet.
+// The range rules: a step's range from its operands' ranges (document 01, "Recipe text"; steps 24 and 40 to 42: document 02, W-204 and W-208), and
+// refusals 20 to 22 as stated for the sheet.
 ghost use mathlib.Core.Path.{_≡_};
 ghost use mathlib.Core.Bool.{_||_, cond};
 ghost use Rattle.float_format.specs.Format.{binary64, isInfinite};
-ghost use Rattle.semantics.specs.Range.{doubles, wholes, infiniteEnd, holdsZero, greatest, isNegative, isPositive, fractionLow, fractionHigh, absoluteRange, fmodLow, fmodHigh, fmodRange, ldexpRange, remainderRange, stepRange};
+ghost use Rattle.semantics.specs.Range.{doubles, wholes, infiniteEnd, holdsZero, greatest, isNegative, isPositive, fractionLow, fractionHigh, absoluteRange, fmodLow, fmodHigh, fmodRange, ldexpRange, remainderRange, sumLow, sumHigh, differenceLow, differenceHigh, productLow, productHigh, workedRange, stepRange};
 ghost use Rattle.semantics.specs.Range as range;
 ghost use Rattle.values.specs.Seen.{outcomeOf, RealOutcome};
 ghost use Rattle.ranges.specs.Seen.{RealRange, seenRange, boundOf, RealBound};
 ghost use Rattle.ranges.specs.Carried.{between, carried};
+use super::AnswerEnds;
 use super::Bound;
 use super::Range;
 use float_format::Binary64;
+use integer_arithmetic::binary64::difference;
+use integer_arithmetic::binary64::product;
+use integer_arithmetic::binary64::sum;
 use ordering::binary64::fmax;
 use ordering::binary64::fmin;
 use recipe::Step;
@@ -21,6 +25,7 @@ use twos_complement::signed;
 use values::Outcome;
 use values::step::difference_of;
 use values::step::double_of;
+use values::step::is_infinite;
 use values::step::ldexp_of;
 use values::step::lround_of;
 use values::step::real_of;
@@ -61,12 +66,6 @@ fn is_positive(x: u64) -> bool
     ensures { λ r. ⌜ r ≡ isPositive x ⌝ }
 {
     double_above(x, 0)
-}
-
-pub fn is_infinite(x: u64) -> bool
-    ensures { λ r. ⌜ r ≡ isInfinite binary64 x ⌝ }
-{
-    x % Binary64::SIGN == Binary64::INFINITY
 }
 
 pub fn infinite_end(low: u64, high: u64) -> bool
@@ -210,6 +209,54 @@ fn remainder_range(low: u64, high: u64, s: u64, t: u64) -> Bound
     doubles_of(Binary64::negate(m), m)
 }
 
+// 40 to 42: the answer's ends, of operands from low to high and from s to t.
+pub fn sum_ends(low: u64, high: u64, s: u64, t: u64) -> AnswerEnds
+    ensures { λ r. ⌜ (r .low ≡ sumLow (doubles low high) (doubles s t)) × (r .high ≡ sumHigh (doubles low high) (doubles s t)) ⌝ }
+{
+    AnswerEnds {
+        low: sum(low, s),
+        high: sum(high, t),
+    }
+}
+
+pub fn difference_ends(low: u64, high: u64, s: u64, t: u64) -> AnswerEnds
+    ensures { λ r. ⌜ (r .low ≡ differenceLow (doubles low high) (doubles s t)) × (r .high ≡ differenceHigh (doubles low high) (doubles s t)) ⌝ }
+{
+    AnswerEnds {
+        low: difference(low, t),
+        high: difference(high, s),
+    }
+}
+
+// Which of the four end products are the ends depends on the signs. Where one is infinite, the least or the greatest is.
+pub fn product_ends(low: u64, high: u64, s: u64, t: u64) -> AnswerEnds
+    ensures { λ r. ⌜ (r .low ≡ productLow (doubles low high) (doubles s t)) × (r .high ≡ productHigh (doubles low high) (doubles s t)) ⌝ }
+{
+    let a = product(low, s);
+    let b = product(low, t);
+    let c = product(high, s);
+    let d = product(high, t);
+    AnswerEnds {
+        low: fmin(fmin(a, b), fmin(c, d)),
+        high: fmax(fmax(a, b), fmax(c, d)),
+    }
+}
+
+// 40 to 42: the range between the answer's ends, where no end of an operand and neither of them is infinite.
+fn worked_range(low: u64, high: u64, s: u64, t: u64, ends: AnswerEnds) -> Bound
+    ensures { λ r. ⌜ (boundOf r ≡ carried (workedRange (doubles low high) (doubles s t) (infiniteEnd (doubles (ends .low) (ends .high))) (ends .low) (ends .high))) × RealBound r ⌝ }
+{
+    let from = ends.low;
+    let to = ends.high;
+    if any(infinite_end(low, high), infinite_end(s, t)) {
+        return Bound::Refused(20);
+    }
+    if infinite_end(from, to) {
+        return Bound::Refused(21);
+    }
+    doubles_of(from, to)
+}
+
 // The range of the step t, a and b being its operands' ranges.
 pub fn step_range(t: Step, a: Range, b: Range) -> Bound
     requires { ⌜ RealRange a × RealRange b ⌝ }
@@ -248,6 +295,15 @@ pub fn step_range(t: Step, a: Range, b: Range) -> Bound
         0x30 => between(sum_of(least, least2), sum_of(most, most2)),
         0x31 => between(difference_of(least, most2), difference_of(most, least2)),
         0x32 => between(double_of(least), double_of(most)),
+        0x40 => worked_range(low, high, low2, high2, sum_ends(low, high, low2, high2)),
+        0x41 => worked_range(
+            low,
+            high,
+            low2,
+            high2,
+            difference_ends(low, high, low2, high2),
+        ),
+        0x42 => worked_range(low, high, low2, high2, product_ends(low, high, low2, high2)),
         _ => between(whole_of(0), whole_of(0)),
     }
 }

@@ -20,6 +20,12 @@ pub enum Range {
     Wholes(WholeRange),
 }
 
+// The low and the high answer of add, subtract or multiply, as patterns; either may be infinite.
+pub struct AnswerEnds {
+    pub low: u64,
+    pub high: u64,
+}
+
 // What a step's range comes to: a range, or a refusal's number.
 pub enum Bound {
     Ranged(Range),

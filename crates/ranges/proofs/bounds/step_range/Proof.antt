@@ -10,7 +10,7 @@ use Rattle.ranges.specs.Seen.{seenRange}
 use Rattle.ranges.specs.Carried.{carried}
 use Rattle.ranges.proofs.Rules.{bounded}
 use Rattle.semantics.proofs.Rules.{unbounded}
-use Rattle.ranges.proofs.Ends.{lround-ranged, whole-ranged, double-ranged}
+use Rattle.ranges.proofs.Ends.{lround-ranged, whole-ranged, double-ranged, product-ranged}
 use borrow.Author.Needs.{needs}
 use Rattle.ranges.proofs.bounds.step_range.Statement.{statement}
 use Rattle.ranges.proofs.bounds.step_range.Tie as tie
@@ -246,6 +246,24 @@ double-of-requires-2 c κs = search needs
 between-requires-6 : tie.Need-between-requires-6
 between-requires-6 c κs = search needs
 
+sum-ends-requires : tie.Need-sum-ends-requires
+sum-ends-requires c κs = search needs
+
+worked-range-requires : tie.Need-worked-range-requires
+worked-range-requires c κs = search needs
+
+difference-ends-requires : tie.Need-difference-ends-requires
+difference-ends-requires c κs = search needs
+
+worked-range-requires-2 : tie.Need-worked-range-requires-2
+worked-range-requires-2 c κs = search needs
+
+product-ends-requires : tie.Need-product-ends-requires
+product-ends-requires c κs = search needs
+
+worked-range-requires-3 : tie.Need-worked-range-requires-3
+worked-range-requires-3 c κs = search needs
+
 whole-of-requires-5 : tie.Need-whole-of-requires-5
 whole-of-requires-5 c κs = search needs
 
@@ -340,7 +358,19 @@ unfolding rangeRule
 returns-21 c = (c .between6 .ensures .0 ∙ double-ranged (a (c .before .before .before .before)) _ _ (rw (least-is (c .before .before .before .before)) at (c .before .before .double-of .ensures .0)) (rw (most-is (c .before .before .before .before)) at (c .before .double-of2 .ensures .0)) ∙ arm (c .before .before .before .before) (c .before .before .before .match .keys21), c .between6 .ensures .1)
 
 returns-22 : tie.Need-returns-22
-returns-22 c = ((rw (c .before .before .whole-of5 .ensures .0, c .before .whole-of6 .ensures .0) at (c .between7 .ensures .0)) ∙ ap carried (unbounded (step (c .before .before .before .before)) (a (c .before .before .before .before)) (b (c .before .before .before .before)) (c .before .before .before .match .rest)), c .between7 .ensures .1)
+unfolding rangeRule
+returns-22 c = ((rw (c .before .sum-ends .ensures .0, c .before .sum-ends .ensures .1, low-is (c .before .before .before), high-is (c .before .before .before), low2-is (c .before .before .before), high2-is (c .before .before .before)) at (c .worked-range .ensures .0)) ∙ arm (c .before .before .before) (c .before .before .match .keys22), c .worked-range .ensures .1)
+
+returns-23 : tie.Need-returns-23
+unfolding rangeRule
+returns-23 c = ((rw (c .before .difference-ends .ensures .0, c .before .difference-ends .ensures .1, low-is (c .before .before .before), high-is (c .before .before .before), low2-is (c .before .before .before), high2-is (c .before .before .before)) at (c .worked-range2 .ensures .0)) ∙ arm (c .before .before .before) (c .before .before .match .keys23), c .worked-range2 .ensures .1)
+
+returns-24 : tie.Need-returns-24
+unfolding rangeRule
+returns-24 c = ((rw (c .before .product-ends .ensures .0, c .before .product-ends .ensures .1, low-is (c .before .before .before), high-is (c .before .before .before), low2-is (c .before .before .before), high2-is (c .before .before .before)) at (c .worked-range3 .ensures .0)) ∙ product-ranged (a (c .before .before .before)) (b (c .before .before .before)) ∙ arm (c .before .before .before) (c .before .before .match .keys24), c .worked-range3 .ensures .1)
+
+returns-25 : tie.Need-returns-25
+returns-25 c = ((rw (c .before .before .whole-of5 .ensures .0, c .before .whole-of6 .ensures .0) at (c .between7 .ensures .0)) ∙ ap carried (unbounded (step (c .before .before .before .before)) (a (c .before .before .before .before)) (b (c .before .before .before .before)) (c .before .before .before .match .rest)), c .between7 .ensures .1)
 
 pub step-range-spec : {M : Type 1} → statement M
 step-range-spec =
@@ -409,6 +439,12 @@ step-range-spec =
     double-of-requires
     double-of-requires-2
     between-requires-6
+    sum-ends-requires
+    worked-range-requires
+    difference-ends-requires
+    worked-range-requires-2
+    product-ends-requires
+    worked-range-requires-3
     whole-of-requires-5
     whole-of-requires-6
     between-requires-7
@@ -433,4 +469,7 @@ step-range-spec =
     returns-19
     returns-20
     returns-21
-    returns-22)
+    returns-22
+    returns-23
+    returns-24
+    returns-25)
