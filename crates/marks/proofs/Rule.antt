@@ -30,10 +30,10 @@ module _ (opcode : ℕ) (r : Range) (a b : Bool) where
         marked-first e = rw (always, number, rounding, e)
 
         module _ (first : within 0x16 0x17 opcode ≡ false) where
-          pub marked-both : (within 0x20 0x22 opcode || eqb opcode 0x24) ≡ true → (a && b) ≡ markRule opcode r a b
+          pub marked-both : (within 0x20 0x22 opcode || eqb opcode 0x24 || within 0x40 0x42 opcode) ≡ true → (a && b) ≡ markRule opcode r a b
           unfolding markRule
           marked-both e = rw (always, number, rounding, first, e)
 
-          pub marked-never : (within 0x20 0x22 opcode || eqb opcode 0x24) ≡ false → false ≡ markRule opcode r a b
+          pub marked-never : (within 0x20 0x22 opcode || eqb opcode 0x24 || within 0x40 0x42 opcode) ≡ false → false ≡ markRule opcode r a b
           unfolding markRule
           marked-never e = rw (always, number, rounding, first, e)

@@ -1,6 +1,7 @@
-// The whole mark of a step (document 02, W-203, and W-204 for step 24).
+// The whole mark of a step (document 02, W-203; W-204 for step 24, W-208 for 40 to 42).
 ghost use mathlib.Core.Path.{_≡_};
-ghost use mathlib.Core.Bool.{_&&_};
+ghost use mathlib.Core.Bool.{_&&_, _||_};
+ghost use lib.Dec.{eqb};
 ghost use Rattle.float_format.specs.Format.{binary64};
 ghost use Rattle.float_format.specs.Number.{isIntegral};
 ghost use Rattle.recipe.specs.Table.{within};
@@ -56,6 +57,16 @@ fn is_whole(r: Range) -> bool
     }
 }
 
+// Whether a step is marked where both its operands are: fmin, fmax, fmod, remainder, add, subtract and multiply.
+fn by_both(opcode: u8) -> bool
+    ensures { λ r. ⌜ r ≡ (within 0x20 0x22 opcode || eqb opcode 0x24 || within 0x40 0x42 opcode) ⌝ }
+{
+    any(
+        any(within(0x20, 0x22, opcode), opcode == 0x24),
+        within(0x40, 0x42, opcode),
+    )
+}
+
 // The mark of a step, by its opcode, its own range and its operands' marks.
 pub fn step_mark(opcode: u8, r: Range, a: bool, b: bool) -> bool
     requires { ⌜ RealRange r ⌝ }
@@ -75,7 +86,7 @@ pub fn step_mark(opcode: u8, r: Range, a: bool, b: bool) -> bool
     if within(0x16, 0x17, opcode) {
         return a;
     }
-    if any(within(0x20, 0x22, opcode), opcode == 0x24) {
+    if by_both(opcode) {
         return all(a, b);
     }
     false

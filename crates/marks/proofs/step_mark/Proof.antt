@@ -86,35 +86,30 @@ returns-4 c =
     let s = f .before .before .before .args in
     marked-first (s .opcode) (seenRange (s .r)) (s .a) (s .b) (not-always f) (not-number e) (not-rounding d) (sym (c .before .within2 .ensures) ∙ c .if4 .taken)
 
-within-requires-3 : tie.Need-within-requires-3
-within-requires-3 c κs = search needs
-
-any-requires-3 : tie.Need-any-requires-3
-any-requires-3 c κs = search needs
+by-both-requires : tie.Need-by-both-requires
+by-both-requires c κs = search needs
 
 all-requires : tie.Need-all-requires
 all-requires c κs = search needs
 
 returns-5 : tie.Need-returns-5
 returns-5 c =
-    let b = c .before .before .before .before in
-    let d = b .before .before in
-    let e = d .before .before in
-    let f = e .before .before .before .before in
-    let s = f .before .before .before .args in
-    c .all .ensures
-    ∙ marked-both (s .opcode) (seenRange (s .r)) (s .a) (s .b) (not-always f) (not-number e) (not-rounding d) (not-first b)
-    (ap (λ (w : Bool). w || eqb (s .opcode) 0x24) (sym (c .before .before .before .within3 .ensures)) ∙ sym (c .before .before .any3 .ensures) ∙ c .before .if5 .taken)
-
-returns-6 : tie.Need-returns-6
-returns-6 c =
     let b = c .before .before .before in
     let d = b .before .before in
     let e = d .before .before in
     let f = e .before .before .before .before in
     let s = f .before .before .before .args in
-    marked-never (s .opcode) (seenRange (s .r)) (s .a) (s .b) (not-always f) (not-number e) (not-rounding d) (not-first b)
-    (ap (λ (w : Bool). w || eqb (s .opcode) 0x24) (sym (c .before .before .within3 .ensures)) ∙ sym (c .before .any3 .ensures) ∙ c .if5 .left)
+    c .all .ensures
+    ∙ marked-both (s .opcode) (seenRange (s .r)) (s .a) (s .b) (not-always f) (not-number e) (not-rounding d) (not-first b) (sym (c .before .before .by-both .ensures) ∙ c .before .if5 .taken)
+
+returns-6 : tie.Need-returns-6
+returns-6 c =
+    let b = c .before .before in
+    let d = b .before .before in
+    let e = d .before .before in
+    let f = e .before .before .before .before in
+    let s = f .before .before .before .args in
+    marked-never (s .opcode) (seenRange (s .r)) (s .a) (s .b) (not-always f) (not-number e) (not-rounding d) (not-first b) (sym (c .before .by-both .ensures) ∙ c .if5 .left)
 
 pub step-mark-spec : {M : Type 1} → statement M
 step-mark-spec =
@@ -133,8 +128,7 @@ step-mark-spec =
     returns-3
     within-requires-2
     returns-4
-    within-requires-3
-    any-requires-3
+    by-both-requires
     all-requires
     returns-5
     returns-6)
