@@ -16,21 +16,22 @@ use Rattle.recipe.specs.Text.{first, second}
 use Rattle.semantics.specs.Value.{Datum, whole, Outcome, done, refused, fitsWord, ofWhole}
 use borrow.Author.Tests.{ne-eqb}
 use Rattle.semantics.specs.Range.{Range, doubles, wholes, low, high, least, most, isNegative, isPositive}
-use Rattle.semantics.specs.Cause.{ofA, ofB, Cause, cause, overflows, firstOf, lroundCauses, wholeCauses, ldexpCauses, doubleCauses, causesOf, causeOf, operandIn, codeIn}
+use Rattle.semantics.specs.Cause.{Named, ofA, ofB, Cause, cause, operandOf, overflows, firstOf, lroundCauses, wholeCauses, ldexpCauses, doubleCauses, causesOf, causeOf, operandIn, codeIn}
 use Rattle.semantics.specs.Sheet.{noRange}
 use Rattle.semantics.specs.Explain.{explained, whyOn}
 use Rattle.explaining.specs.Reasons.{Tells, isRefused}
 
-module _ (t : Step) (c d n : ℕ) (low high : Bool) (l : List Cause) where
-  pub tells-low : low ≡ true → Tells t (cause c ofA n low ∷ cause d ofA n high ∷ l) (first t) c
+-- two facts about the operand i, of which each has its code
+module _ (t : Step) (names : Named) (i c d n : ℕ) (low high : Bool) (l : List Cause) (is : i ≡ operandOf t names) where
+  pub tells-low : low ≡ true → Tells t (cause c names n low ∷ cause d names n high ∷ l) i c
   unfolding firstOf
-  tells-low e = rw e (refl, refl)
+  tells-low e = rw e (is, refl)
 
-  pub tells-high : low ≡ false → high ≡ true → Tells t (cause c ofA n low ∷ cause d ofA n high ∷ l) (first t) d
+  pub tells-high : low ≡ false → high ≡ true → Tells t (cause c names n low ∷ cause d names n high ∷ l) i d
   unfolding firstOf
-  tells-high e f = rw (e, f) (refl, refl)
+  tells-high e f = rw (e, f) (is, refl)
 
-  pub tells-after : low ≡ false → high ≡ false → (o k : ℕ) → Tells t l o k → Tells t (cause c ofA n low ∷ cause d ofA n high ∷ l) o k
+  pub tells-after : low ≡ false → high ≡ false → (o k : ℕ) → Tells t l o k → Tells t (cause c names n low ∷ cause d names n high ∷ l) o k
   unfolding firstOf
   tells-after e f o k h = rw (e, f) h
 
@@ -96,19 +97,22 @@ at-opcode t a b o c e h = (h .0 ∙ ap (λ (n : ℕ). operandIn t (firstOf (caus
 
 -- what the last arm of the match knows
 abbrev Other : ℕ → Type 0
-Other k = (((((Unit {0} × (k ≡ 24 → ⊥)) × ((k ≡ 34) ⊎ (k ≡ 36) → ⊥)) × (k ≡ 35 → ⊥)) × (k ≡ 48 → ⊥)) × (k ≡ 49 → ⊥)) × (k ≡ 50 → ⊥)
+Other k = ((((((((Unit {0} × (k ≡ 24 → ⊥)) × ((k ≡ 34) ⊎ (k ≡ 36) → ⊥)) × (k ≡ 35 → ⊥)) × (k ≡ 48 → ⊥)) × (k ≡ 49 → ⊥)) × (k ≡ 50 → ⊥)) × (k ≡ 64 → ⊥)) × (k ≡ 65 → ⊥)) × (k ≡ 66 → ⊥)
 
 pub tells-other : (t : Step) (a b : Range) (o c : ℕ) → o ≡ 0 → c ≡ 0 → Other (t .opcode) → Tells t (causesOf (t .opcode) a b) o c
 unfolding causesOf
 tells-other t a b o c e f h =
     simp (
-      ne-eqb (t .opcode) 24 (h .0 .0 .0 .0 .0 .1),
-      ne-eqb (t .opcode) 34 (λ n. h .0 .0 .0 .0 .1 (inl n)),
-      ne-eqb (t .opcode) 36 (λ n. h .0 .0 .0 .0 .1 (inr n)),
-      ne-eqb (t .opcode) 35 (h .0 .0 .0 .1),
-      ne-eqb (t .opcode) 48 (h .0 .0 .1),
-      ne-eqb (t .opcode) 49 (h .0 .1),
-      ne-eqb (t .opcode) 50 (h .1),
+      ne-eqb (t .opcode) 24 (h .0 .0 .0 .0 .0 .0 .0 .0 .1),
+      ne-eqb (t .opcode) 34 (λ n. h .0 .0 .0 .0 .0 .0 .0 .1 (inl n)),
+      ne-eqb (t .opcode) 36 (λ n. h .0 .0 .0 .0 .0 .0 .0 .1 (inr n)),
+      ne-eqb (t .opcode) 35 (h .0 .0 .0 .0 .0 .0 .1),
+      ne-eqb (t .opcode) 48 (h .0 .0 .0 .0 .0 .1),
+      ne-eqb (t .opcode) 49 (h .0 .0 .0 .0 .1),
+      ne-eqb (t .opcode) 50 (h .0 .0 .0 .1),
+      ne-eqb (t .opcode) 64 (h .0 .0 .1),
+      ne-eqb (t .opcode) 65 (h .0 .1),
+      ne-eqb (t .opcode) 66 (h .1),
     ) (tells-none t o c e f)
 
 -- ---- the step that the fold stops at

@@ -3,19 +3,24 @@ ghost use mathlib.Core.Path.{_≡_};
 ghost use mathlib.Core.List.{List, [], _∷_};
 ghost use Prim.Native.Nat.{ℕ};
 ghost use Rattle.semantics.specs.Range.{doubles, wholes};
-ghost use Rattle.semantics.specs.Cause.{ofA, Cause, cause, remainderCauses, ldexpCauses, causesOf};
+ghost use Rattle.recipe.specs.declared.Step as step;
+ghost use Rattle.semantics.specs.Cause.{Named, ofA, Cause, cause, operandOf, remainderCauses, ldexpCauses, arithmeticCauses, causesOf};
 ghost use Rattle.values.specs.Seen.{outcomeOf};
 ghost use Rattle.ranges.specs.Seen.{RealRange, seenRange};
 ghost use Rattle.explaining.specs.Reasons.{Tells, isRefused};
+use ranges::AnswerEnds;
 use ranges::Range;
+use ranges::bounds::difference_ends;
 use ranges::bounds::high_power;
 use ranges::bounds::holds_zero;
-use ranges::bounds::is_infinite;
 use ranges::bounds::low_power;
+use ranges::bounds::product_ends;
+use ranges::bounds::sum_ends;
 use recipe::Step;
 use values::Outcome;
 use values::step::difference_of;
 use values::step::double_of;
+use values::step::is_infinite;
 use values::step::ldexp_of;
 use values::step::lround_of;
 use values::step::sum_of;
@@ -45,20 +50,20 @@ fn refuses(end: Outcome) -> bool
     }
 }
 
-// Of two facts about A the first that is true, and what comes after them where neither is.
-fn of_ends(t: Step, low: bool, c: u64, high: bool, d: u64, after: Reason) -> Reason
-    ensures { λ r. ⌜ ((number : ℕ) (l : List Cause) → Tells t l (after .operand) (after .code) →
-        Tells t (cause c ofA number low ∷ cause d ofA number high ∷ l) (r .operand) (r .code)) ⌝ }
+// Of two facts about an operand the first that is true, and what comes after them where neither is.
+fn of_ends(operand: u64, low: bool, c: u64, high: bool, d: u64, after: Reason) -> Reason
+    ensures { λ r. ⌜ ((t : step.Step) (names : Named) (number : ℕ) (l : List Cause) → operand ≡ operandOf t names → Tells t l (after .operand) (after .code) →
+        Tells t (cause c names number low ∷ cause d names number high ∷ l) (r .operand) (r .code)) ⌝ }
 {
     if low {
         return Reason {
-            operand: t.a.0 as u64,
+            operand: operand,
             code: c,
         };
     }
     if high {
         return Reason {
-            operand: t.a.0 as u64,
+            operand: operand,
             code: d,
         };
     }
@@ -75,7 +80,8 @@ fn of_remainder(t: Step, low: u64, high: u64, low2: u64, high2: u64) -> Reason
             code: 1,
         };
     }
-    of_ends(t, is_infinite(low), 2, is_infinite(high), 3, no_reason())
+    let a = t.a.0 as u64;
+    of_ends(a, is_infinite(low), 2, is_infinite(high), 3, no_reason())
 }
 
 // 23: an infinite end first, then the scaling of each end by its power.
@@ -84,15 +90,29 @@ fn of_ldexp(t: Step, low: u64, high: u64, least: i64, most: i64) -> Reason
 {
     let low_overflows = refuses(ldexp_of(low, low_power(low, least, most)));
     let high_overflows = refuses(ldexp_of(high, high_power(high, least, most)));
-    let overflow = of_ends(t, low_overflows, 10, high_overflows, 11, no_reason());
-    of_ends(t, is_infinite(low), 8, is_infinite(high), 9, overflow)
+    let a = t.a.0 as u64;
+    let overflow = of_ends(a, low_overflows, 10, high_overflows, 11, no_reason());
+    of_ends(a, is_infinite(low), 8, is_infinite(high), 9, overflow)
 }
 
 // Of a step whose two facts are that the rule refuses an end.
 fn of_outcomes(t: Step, low: Outcome, c: u64, high: Outcome, d: u64) -> Reason
     ensures { λ r. ⌜ ((number : ℕ) → Tells t (cause c ofA number (isRefused (outcomeOf low)) ∷ cause d ofA number (isRefused (outcomeOf high)) ∷ []) (r .operand) (r .code)) ⌝ }
 {
-    of_ends(t, refuses(low), c, refuses(high), d, no_reason())
+    of_ends(t.a.0 as u64, refuses(low), c, refuses(high), d, no_reason())
+}
+
+// 40 to 42: an infinite end of A, then of B, then of the answer.
+fn of_arithmetic(t: Step, low: u64, high: u64, low2: u64, high2: u64, ends: AnswerEnds) -> Reason
+    ensures { λ r. ⌜ Tells t (arithmeticCauses (doubles low high) (doubles low2 high2) (ends .low) (ends .high)) (r .operand) (r .code) ⌝ }
+{
+    let a = t.a.0 as u64;
+    let b = t.b.0 as u64;
+    let from = ends.low;
+    let to = ends.high;
+    let overflow = of_ends(a, is_infinite(from), 18, is_infinite(to), 19, no_reason());
+    let infinite = of_ends(b, is_infinite(low2), 16, is_infinite(high2), 17, overflow);
+    of_ends(a, is_infinite(low), 14, is_infinite(high), 15, infinite)
 }
 
 // Why the step t is turned down, a and b being its operands' ranges.
@@ -122,6 +142,23 @@ pub(crate) fn reason_of(t: Step, a: Range, b: Range) -> Reason
             7,
         ),
         0x32 => of_outcomes(t, double_of(least), 12, double_of(most), 13),
+        0x40 => of_arithmetic(t, low, high, low2, high2, sum_ends(low, high, low2, high2)),
+        0x41 => of_arithmetic(
+            t,
+            low,
+            high,
+            low2,
+            high2,
+            difference_ends(low, high, low2, high2),
+        ),
+        0x42 => of_arithmetic(
+            t,
+            low,
+            high,
+            low2,
+            high2,
+            product_ends(low, high, low2, high2),
+        ),
         _ => no_reason(),
     }
 }

@@ -1,5 +1,5 @@
 -- `of_ldexp` meets its contract. Assumes nothing.
-use mathlib.Core.Path.{_≡_}
+use mathlib.Core.Path.{_≡_, refl}
 use mathlib.Core.List.{[], _∷_}
 use mir.Syntax.{w64}
 use mir.Val.{ofZ, toZ}
@@ -27,6 +27,9 @@ ldexp-of-requires-2 c κs = search needs
 refuses-requires-2 : tie.Need-refuses-requires-2
 refuses-requires-2 c κs = search needs
 
+cast-a : tie.Need-cast-a
+cast-a c = search needs
+
 no-reason-requires : tie.Need-no-reason-requires
 no-reason-requires c κs = search needs
 
@@ -44,18 +47,18 @@ of-ends-requires-2 c κs = search needs
 
 returns : tie.Need-returns
 returns c =
-    let a = c .before .before .before .before .before .before .before .before .before .before .before .args in
-    let m = c .before .before .before .before .before .before .before .before .before .before .low-power .result in
-    let n = c .before .before .before .before .before .before .before .high-power .result in
+    let a = c .before .before .before .before .before .before .before .before .before .before .before .before .args in
+    let m = c .before .before .before .before .before .before .before .before .before .before .before .low-power .result in
+    let n = c .before .before .before .before .before .before .before .before .high-power .result in
     let i : toZ w64 (ofZ w64 (a .least)) ≡ a .least = search needs in
     let j : toZ w64 (ofZ w64 (a .most)) ≡ a .most = search needs in
     let p : toZ w64 (ofZ w64 m) ≡ m = search needs in
     let q : toZ w64 (ofZ w64 n) ≡ n = search needs in
     ldexp-told (a .t) (a .low) (a .high) (a .least) (a .most) m n _ _ _ _
-    (rw (i, j) at (c .before .before .before .before .before .before .before .before .before .before .low-power .ensures)) (rw (i, j) at (c .before .before .before .before .before .before .before .high-power .ensures)) (rw p at (c .before .before .before .before .before .before .before .before .before .ldexp-of .ensures .0)) (rw q at (c .before .before .before .before .before .before .ldexp-of2 .ensures .0))
-    (rw (c .before .before .is-infinite .ensures, c .before .is-infinite2 .ensures, c .before .before .before .before .before .before .before .before .refuses .ensures, c .before .before .before .before .before .refuses2 .ensures) at
-    (c .of-ends2 .ensures 21 (cause 10 ofA 21 (c .before .before .before .before .before .before .before .before .refuses .result) ∷ cause 11 ofA 21 (c .before .before .before .before .before .refuses2 .result) ∷ [])
-    (c .before .before .before .of-ends .ensures 21 [] (tells-none (a .t) _ _ (c .before .before .before .before .no-reason .ensures .0) (c .before .before .before .before .no-reason .ensures .1)))))
+    (rw (i, j) at (c .before .before .before .before .before .before .before .before .before .before .before .low-power .ensures)) (rw (i, j) at (c .before .before .before .before .before .before .before .before .high-power .ensures)) (rw p at (c .before .before .before .before .before .before .before .before .before .before .ldexp-of .ensures .0)) (rw q at (c .before .before .before .before .before .before .before .ldexp-of2 .ensures .0))
+    (rw (c .before .before .is-infinite .ensures, c .before .is-infinite2 .ensures, c .before .before .before .before .before .before .before .before .before .refuses .ensures, c .before .before .before .before .before .before .refuses2 .ensures) at
+    (c .of-ends2 .ensures (a .t) ofA 21 (cause 10 ofA 21 (c .before .before .before .before .before .before .before .before .before .refuses .result) ∷ cause 11 ofA 21 (c .before .before .before .before .before .before .refuses2 .result) ∷ []) refl
+    (c .before .before .before .of-ends .ensures (a .t) ofA 21 [] refl (tells-none (a .t) _ _ (c .before .before .before .before .no-reason .ensures .0) (c .before .before .before .before .no-reason .ensures .1)))))
 
 pub of-ldexp-spec : {M : Type 1} → statement M
 of-ldexp-spec =
@@ -67,6 +70,7 @@ of-ldexp-spec =
     high-power-requires
     ldexp-of-requires-2
     refuses-requires-2
+    cast-a
     no-reason-requires
     of-ends-requires
     is-infinite-requires

@@ -118,6 +118,24 @@ double-of-requires-2 c κs = search needs
 of-outcomes-requires-4 : tie.Need-of-outcomes-requires-4
 of-outcomes-requires-4 c κs = search needs
 
+sum-ends-requires : tie.Need-sum-ends-requires
+sum-ends-requires c κs = search needs
+
+of-arithmetic-requires : tie.Need-of-arithmetic-requires
+of-arithmetic-requires c κs = search needs
+
+difference-ends-requires : tie.Need-difference-ends-requires
+difference-ends-requires c κs = search needs
+
+of-arithmetic-requires-2 : tie.Need-of-arithmetic-requires-2
+of-arithmetic-requires-2 c κs = search needs
+
+product-ends-requires : tie.Need-product-ends-requires
+product-ends-requires c κs = search needs
+
+of-arithmetic-requires-3 : tie.Need-of-arithmetic-requires-3
+of-arithmetic-requires-3 c κs = search needs
+
 no-reason-requires : tie.Need-no-reason-requires
 no-reason-requires c κs = search needs
 
@@ -159,7 +177,25 @@ returns-6 c =
     at-opcode (step e) (a e) (b e) _ _ (c .before .before .before .match .keys6) (double-told (step e) _ _ _ _ (a e) (rw (least-is e) at (c .before .before .double-of .ensures .0)) (rw (most-is e) at (c .before .double-of2 .ensures .0)) (c .of-outcomes4 .ensures 22))
 
 returns-7 : tie.Need-returns-7
+unfolding causesOf
 returns-7 c =
+    let e = c .before .before .before in
+    at-opcode (step e) (a e) (b e) _ _ (c .before .before .match .keys7) (rw (c .before .sum-ends .ensures .0, c .before .sum-ends .ensures .1, low-is e, high-is e, low2-is e, high2-is e) at (c .of-arithmetic .ensures))
+
+returns-8 : tie.Need-returns-8
+unfolding causesOf
+returns-8 c =
+    let e = c .before .before .before in
+    at-opcode (step e) (a e) (b e) _ _ (c .before .before .match .keys8) (rw (c .before .difference-ends .ensures .0, c .before .difference-ends .ensures .1, low-is e, high-is e, low2-is e, high2-is e) at (c .of-arithmetic2 .ensures))
+
+returns-9 : tie.Need-returns-9
+unfolding causesOf
+returns-9 c =
+    let e = c .before .before .before in
+    at-opcode (step e) (a e) (b e) _ _ (c .before .before .match .keys9) (rw (c .before .product-ends .ensures .0, c .before .product-ends .ensures .1, low-is e, high-is e, low2-is e, high2-is e) at (c .of-arithmetic3 .ensures))
+
+returns-10 : tie.Need-returns-10
+returns-10 c =
     let e = c .before .before in
     tells-other (step e) (a e) (b e) _ _ (c .no-reason .ensures .0) (c .no-reason .ensures .1) (c .before .match .rest)
 
@@ -189,6 +225,12 @@ reason-of-spec =
     double-of-requires
     double-of-requires-2
     of-outcomes-requires-4
+    sum-ends-requires
+    of-arithmetic-requires
+    difference-ends-requires
+    of-arithmetic-requires-2
+    product-ends-requires
+    of-arithmetic-requires-3
     no-reason-requires
     returns
     returns-2
@@ -196,4 +238,7 @@ reason-of-spec =
     returns-4
     returns-5
     returns-6
-    returns-7)
+    returns-7
+    returns-8
+    returns-9
+    returns-10)
