@@ -1,5 +1,6 @@
 /*
- * Estrenwind: rounding, splitting, scaling and remainders of IEEE 754 numbers, exact to the last bit, and recipes of such steps.
+ * Estrenwind: rounding, splitting, scaling and remainders of IEEE 754 numbers, exact to the last bit, and recipes of such steps, in which
+ * doubles are also added, subtracted and multiplied.
  *
  * A function whose name ends in _f64, _f32 or _f16 takes and returns bit patterns: the 64 bits of a double as a uint64_t, the
  * 32 bits of a float as a uint32_t, the 16 bits of a half (binary16) as a uint16_t. So a host cannot change a NaN's bits on the
@@ -74,8 +75,8 @@ enum {
     EW_REFUSED_INPUTS = 17,   /* a seventeenth input */
 
     /* A step of a run or a sheet; the place is its number. A sheet refuses where some frame could be refused. */
-    EW_REFUSED_REMAINDER = 20, /* fmod or remainder of an infinite number, or by zero */
-    EW_REFUSED_OVERFLOW = 21,  /* lround, a whole sum or difference, or ldexp out of range */
+    EW_REFUSED_REMAINDER = 20, /* fmod or remainder of an infinite number, or by zero; add, subtract or multiply of an infinite number */
+    EW_REFUSED_OVERFLOW = 21,  /* lround, a whole sum or difference, ldexp, add, subtract or multiply out of range */
     EW_REFUSED_INEXACT = 22,   /* a whole number over 2^53 in magnitude, to be made a double */
 
     /* A frame; the place is 0, but the input's step for its range. */
@@ -506,6 +507,7 @@ typedef struct { uint64_t refusal, place, steps; } ew_sheet_answer;
  *     10 to 14, the roundings, where both ends of the range are finite
  *     16 and 17, fabs and negate, where A is
  *     20, 21, 22 and 24, fmin, fmax, fmod and remainder, where A and B are
+ *     40, 41 and 42, add, subtract and multiply, where A and B are
  *
  * Refuses 10 to 17 for the text, 40 where sheet has fewer than EW_SHEET_LINE bytes per step, and 20 to 22 for a step some of whose values
  * ew_run might refuse: the first in that order, and no byte is written.
@@ -527,7 +529,13 @@ enum {
     EW_REASON_LDEXP_LOW_OVERFLOWS = 10,   /* 21: the low end of what ldexp gives overflows */
     EW_REASON_LDEXP_HIGH_OVERFLOWS = 11,  /* 21: or its high end */
     EW_REASON_TOO_BIG_LOW = 12,           /* 22: A's low end, to be made a double, is over 2^53 in magnitude */
-    EW_REASON_TOO_BIG_HIGH = 13           /* 22: or its high end */
+    EW_REASON_TOO_BIG_HIGH = 13,          /* 22: or its high end */
+    EW_REASON_A_LOW_INFINITE = 14,        /* 20: A of add, subtract or multiply has an infinite low end */
+    EW_REASON_A_HIGH_INFINITE = 15,       /* 20: or high end */
+    EW_REASON_B_LOW_INFINITE = 16,        /* 20: B of add, subtract or multiply has an infinite low end */
+    EW_REASON_B_HIGH_INFINITE = 17,       /* 20: or high end */
+    EW_REASON_ANSWER_LOW_OVERFLOWS = 18,  /* 21: the low end of what add, subtract or multiply gives overflows */
+    EW_REASON_ANSWER_HIGH_OVERFLOWS = 19  /* 21: or its high end */
 };
 
 /*
@@ -540,7 +548,7 @@ typedef struct { uint64_t refusal, place, step, operand, reason; } ew_explain_an
 /*
  * ew_explain says why ew_sheet, given room, refuses a recipe with 20 to 22. The reason's fact is true of the ranges that the sheet's rules give
  * to the steps before, and no reason before it in the list above is true of that step. The operand is A; for
- * EW_REASON_DIVISOR_HOLDS_ZERO it is B.
+ * EW_REASON_DIVISOR_HOLDS_ZERO, EW_REASON_B_LOW_INFINITE and EW_REASON_B_HIGH_INFINITE it is B.
  *
  * Refuses 10 to 17 for the text, as ew_sheet does. It is lent no memory.
  */
@@ -555,6 +563,19 @@ typedef struct { uint64_t refusal, place, kind, word; } ew_run_answer;
  *
  * A recipe is one line of EW_RECIPE_LINE bytes per step: opcode 2 lower-case hexadecimal digits, A 2, B 2, P 16, Q 16, a line feed. A frame
  * is EW_FRAME_INPUT digits per input, run together.
+ *
+ * The opcodes, and what they work on:
+ *     01, 02           an input from P to Q: a double, a whole number
+ *     03, 04           the constant P: a double, a whole number
+ *     10 to 14         floor, ceil, trunc, round, nearbyint of a double
+ *     15, 16, 17       the fraction of a double, as modf gives it; fabs and negate of one
+ *     18               lround of a double, a whole number
+ *     20, 21, 22, 24   fmin, fmax, fmod, remainder of two doubles
+ *     23               ldexp of a double by a whole number
+ *     30, 31           A + B, A - B of whole numbers
+ *     32               a whole number as a double
+ *     40, 41, 42       add, subtract, multiply: A + B, A - B, A * B of doubles, rounded once to the nearest, halves to even. A zero sum is -0
+ *                      where both terms are (in A - B the term is B negated), else +0; a zero product is -0 where the signs differ
  *
  * Refuses 10 to 17 for the text, 40 where words has fewer places than the recipe steps, 30, 31 and 32 for the frame, and 20 to 22 for
  * a step: the first in that order, and no word is written.
