@@ -44,12 +44,24 @@ pub enum Cause {
     TooBigLow,
     /// 0d: the high end is over 2^53 in magnitude and may have no exact double.
     TooBigHigh,
+    /// 0e: A of add, subtract or multiply has an infinite low end.
+    ALowInfinite,
+    /// 0f: A of add, subtract or multiply has an infinite high end.
+    AHighInfinite,
+    /// 10: B of add, subtract or multiply has an infinite low end.
+    BLowInfinite,
+    /// 11: B of add, subtract or multiply has an infinite high end.
+    BHighInfinite,
+    /// 12: the low end of what add, subtract or multiply gives overflows.
+    AnswerLowOverflows,
+    /// 13: the high end of what add, subtract or multiply gives overflows.
+    AnswerHighOverflows,
     /// The reason of this code, none of those above.
     Other(u64),
 }
 
 /// The codes of those that have a name, from 1 on.
-const NAMED: [Cause; 13] = [
+const NAMED: [Cause; 19] = [
     Cause::DivisorHoldsZero,
     Cause::DividendLowInfinite,
     Cause::DividendHighInfinite,
@@ -63,6 +75,12 @@ const NAMED: [Cause; 13] = [
     Cause::LdexpHighOverflows,
     Cause::TooBigLow,
     Cause::TooBigHigh,
+    Cause::ALowInfinite,
+    Cause::AHighInfinite,
+    Cause::BLowInfinite,
+    Cause::BHighInfinite,
+    Cause::AnswerLowOverflows,
+    Cause::AnswerHighOverflows,
 ];
 
 impl Cause {
@@ -149,6 +167,18 @@ impl fmt::Display for Explanation {
                 f,
                 "the high end of step {operand} is over 2^53 in magnitude, and a double may not hold it"
             ),
+            Cause::ALowInfinite => write!(f, "A, step {operand}, may be -infinity"),
+            Cause::AHighInfinite => write!(f, "A, step {operand}, may be infinity"),
+            Cause::BLowInfinite => write!(f, "B, step {operand}, may be -infinity"),
+            Cause::BHighInfinite => write!(f, "B, step {operand}, may be infinity"),
+            Cause::AnswerLowOverflows => write!(
+                f,
+                "the low end of the answer, whose A is step {operand}, overflows"
+            ),
+            Cause::AnswerHighOverflows => write!(
+                f,
+                "the high end of the answer, whose A is step {operand}, overflows"
+            ),
             Cause::Other(code) => write!(f, "reason {code}, about step {operand}"),
         }
     }
@@ -170,6 +200,15 @@ impl fmt::Display for Explanation {
 ///     Explanation::Refused { cause: Cause::DivisorHoldsZero, step: 2, operand: 1 }
 /// );
 /// assert_eq!(why.to_string(), "step 2: the divisor, step 1, may be zero");
+///
+/// // Two lights, each up to the largest double, and the sum of the two.
+/// let recipe = b"01000000000000000000007fefffffffffffff\n\
+///                01000000000000000000007fefffffffffffff\n\
+///                40000100000000000000000000000000000000\n";
+/// assert_eq!(
+///     explain(recipe)?.to_string(),
+///     "step 2: the high end of the answer, whose A is step 0, overflows"
+/// );
 /// # Ok::<(), estrenwind::TurnedDown>(())
 /// ```
 pub fn explain(recipe: &[u8]) -> Result<Explanation, TurnedDown> {
@@ -192,12 +231,12 @@ mod tests {
 
     #[test]
     fn codes_and_causes_are_one_to_one() {
-        for code in 1..=13 {
+        for code in 1..=19 {
             let cause = Cause::from(code);
             assert_ne!(cause, Cause::Other(code));
             assert_eq!(cause.code(), code);
         }
-        for code in [0, 14, u64::MAX] {
+        for code in [0, 20, u64::MAX] {
             assert_eq!(Cause::from(code), Cause::Other(code));
             assert_eq!(Cause::Other(code).code(), code);
         }
@@ -205,7 +244,7 @@ mod tests {
 
     #[test]
     fn every_cause_is_a_sentence_that_names_its_steps() {
-        for code in 1..=14 {
+        for code in 1..=20 {
             let explanation = Explanation::Refused {
                 cause: Cause::from(code),
                 step: 71,

@@ -123,6 +123,12 @@ pub enum Operation {
     Difference,
     /// The whole number A as a double.
     ToDouble,
+    /// A + B of doubles, rounded once to the nearest, halves to even.
+    Add,
+    /// A - B of doubles, rounded once to the nearest, halves to even.
+    Subtract,
+    /// A times B of doubles, rounded once to the nearest, halves to even.
+    Multiply,
 }
 
 /// What there is to know of an operation.
@@ -154,7 +160,7 @@ const D: Kind = Kind::Double;
 const W: Kind = Kind::Whole;
 
 /// In the order of opcodes, which is that of the enum. The crate's tests ask the library about every row, and about every opcode without one.
-const ROWS: [Row; 21] = [
+const ROWS: [Row; 24] = [
     row(Operation::Input, 0x01, "input", &[], D),
     row(Operation::WholeInput, 0x02, "input whole", &[], W),
     row(Operation::Constant, 0x03, "constant", &[], D),
@@ -176,6 +182,9 @@ const ROWS: [Row; 21] = [
     row(Operation::Sum, 0x30, "sum", &[W, W], W),
     row(Operation::Difference, 0x31, "difference", &[W, W], W),
     row(Operation::ToDouble, 0x32, "to_double", &[W], D),
+    row(Operation::Add, 0x40, "add", &[D, D], D),
+    row(Operation::Subtract, 0x41, "subtract", &[D, D], D),
+    row(Operation::Multiply, 0x42, "multiply", &[D, D], D),
 ];
 
 impl Operation {
@@ -274,6 +283,9 @@ fn read_mark(number: u64) -> Option<bool> {
 /// let floor = Step::read(b"10000000000000000000000000000000000000").unwrap();
 /// assert_eq!((floor.operation, floor.a), (Operation::Floor, 0));
 /// assert_eq!(floor.line(), "10000000000000000000000000000000000000\n");
+///
+/// let scaled = Step { operation: Operation::Multiply, a: 0, b: 1, p: 0, q: 0 };
+/// assert_eq!(scaled.line(), "42000100000000000000000000000000000000\n");
 /// ```
 #[derive(Clone, Copy, Debug, PartialEq, Eq, Hash)]
 #[allow(missing_docs)]

@@ -1,4 +1,5 @@
-//! Rounding, splitting, scaling and remainders of IEEE 754 numbers, exact to the last bit, and recipes of such steps.
+//! Rounding, splitting, scaling and remainders of IEEE 754 numbers, exact to the last bit, and recipes of such steps, in which doubles are also
+//! added, subtracted and multiplied.
 //!
 //! Every function takes and gives `f64` or `f32`; the module [`half`] has halves, as patterns. Every answer is worked out in
 //! whole-number arithmetic by the Estrenwind library, whose functions are proved: none depends on the processor, on the rounding mode,

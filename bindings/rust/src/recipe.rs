@@ -70,9 +70,9 @@ pub enum Fault {
     Declared,
     /// 17: a seventeenth input.
     Inputs,
-    /// 20: fmod or remainder of an infinite number, or by zero. Of a sheet: it could happen.
+    /// 20: fmod or remainder of an infinite number, or by zero; add, subtract or multiply of an infinite number. Of a sheet: it could happen.
     Remainder,
-    /// 21: the answer does not fit 64 bits, or ldexp overflows. Of a sheet: it could happen.
+    /// 21: the answer does not fit 64 bits, or ldexp, add, subtract or multiply overflows. Of a sheet: it could happen.
     Overflow,
     /// 22: a whole number beyond 2^53 has no exact double. Of a sheet: it could happen.
     Inexact,
@@ -155,7 +155,7 @@ impl fmt::Display for Fault {
             Fault::Kind => "works on a step of the wrong kind",
             Fault::Declared => "a NaN, or a range whose low end is above its high end",
             Fault::Inputs => "a seventeenth input",
-            Fault::Remainder => "fmod or remainder of an infinite number, or by zero",
+            Fault::Remainder => "an infinite operand, or a remainder by zero",
             Fault::Overflow => "the answer does not fit",
             Fault::Inexact => "a whole number beyond 2^53 has no exact double",
             Fault::Frame => "the frame does not have 16 digits for each input",
@@ -214,6 +214,12 @@ impl Error for TurnedDown {}
 ///
 /// let refused = run(recipe, b"401e000000000000", &mut words).unwrap_err();
 /// assert_eq!((refused.fault, refused.place), (Fault::Input, 0));
+///
+/// // The input times 3000, rounded once.
+/// let recipe = b"010000c004000000000000401d000000000000\n\
+///                03000040a77000000000000000000000000000\n\
+///                42000100000000000000000000000000000000\n";
+/// assert_eq!(run(recipe, b"bfe0000000000000", &mut words), Ok(Value::Double(-1500.0)));
 /// ```
 pub fn run(recipe: &[u8], frame: &[u8], words: &mut [u64]) -> Result<Value, TurnedDown> {
     // SAFETY: the pointers and lengths are those of slices, and only `words` is written.

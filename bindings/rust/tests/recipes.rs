@@ -79,7 +79,7 @@ fn the_examples() {
         };
         assert_eq!(why, read(&example, "explanation"));
     }
-    assert_eq!((found, others), (9, 4));
+    assert_eq!((found, others), (12, 6));
 }
 
 /// A double, a whole number, and a step of this opcode on the two in these places.
@@ -199,6 +199,9 @@ fn on_some(operation: Operation) -> bool {
                 | Operation::Fmax
                 | Operation::Fmod
                 | Operation::Remainder
+                | Operation::Add
+                | Operation::Subtract
+                | Operation::Multiply
         )
 }
 
@@ -213,17 +216,21 @@ fn declared(operation: Operation, p: f64, q: f64) -> Step {
     }
 }
 
-/// The lines of two inputs, each from a low to a high end, and the remainder of the first by the second.
-fn remainder_of(ends: [[f64; 2]; 2]) -> String {
+/// The lines of two inputs, each from a low to a high end, and an operation on the two.
+fn step_on(operation: Operation, ends: [[f64; 2]; 2]) -> String {
     let inputs = ends.map(|[low, high]| declared(Operation::Input, low, high).line());
-    let remainder = Step {
-        operation: Operation::Remainder,
+    let step = Step {
+        operation,
         a: 0,
         b: 1,
         p: 0,
         q: 0,
     };
-    inputs.concat() + &remainder.line()
+    inputs.concat() + &step.line()
+}
+
+fn remainder_of(ends: [[f64; 2]; 2]) -> String {
+    step_on(Operation::Remainder, ends)
 }
 
 /// Step 24: from -m to m, m being the lesser of the greatest magnitudes of a and of b, and marked where both are.
@@ -300,8 +307,190 @@ fn refusals_of_the_nearest_remainder() {
     }
     assert_eq!(
         Fault::Remainder.to_string(),
-        "fmod or remainder of an infinite number, or by zero"
+        "an infinite operand, or a remainder by zero"
     );
+}
+
+/// Steps 40 to 42: ranges and marks, read off W-208 by hand. Zeros count with their signs.
+#[test]
+fn ranges_of_sums_and_products() {
+    use Operation::{Add, Multiply, Subtract};
+    for (operation, a, b, [low, high], whole) in [
+        (Add, [-3.0, 5.0], [2.0, 7.5], [-1.0, 12.5], false),
+        (Add, [7.0, 7.0], [4.0, 4.0], [11.0, 11.0], true),
+        (Add, [7.0, 7.0], [4.5, 4.5], [11.5, 11.5], false),
+        // 2^53 + 1 is halfway between two doubles: the even one.
+        (
+            Add,
+            [9007199254740992.0; 2],
+            [1.0; 2],
+            [9007199254740992.0; 2],
+            true,
+        ),
+        (Add, [-0.0, 0.0], [-0.0, -0.0], [-0.0, 0.0], true),
+        (
+            Add,
+            [f64::MIN, f64::MAX],
+            [0.0, 1.0],
+            [f64::MIN, f64::MAX],
+            false,
+        ),
+        (Subtract, [-3.0, 5.0], [2.0, 7.5], [-10.5, 3.0], false),
+        (Subtract, [7.0, 7.0], [7.0, 7.0], [0.0, 0.0], true),
+        (Subtract, [-0.0, -0.0], [0.0, 0.0], [-0.0, -0.0], true),
+        (Multiply, [-3.0, 5.0], [2.0, 7.5], [-22.5, 37.5], false),
+        (Multiply, [-3.0, 5.0], [-4.0, 2.0], [-20.0, 12.0], false),
+        (Multiply, [-3.0, -2.0], [-4.0, 2.0], [-6.0, 12.0], false),
+        (Multiply, [7.0, 7.0], [-4.0, -4.0], [-28.0, -28.0], true),
+        // The products of the ends are zeros of both signs.
+        (Multiply, [0.0, 0.0], [-1.0, 1.0], [-0.0, 0.0], false),
+        (Multiply, [5e-324, 1.0], [0.5, 0.5], [0.0, 0.5], false),
+    ] {
+        let range = ranges(step_on(operation, [a, b]).as_bytes())[2];
+        let expected = Range {
+            step: 2,
+            kind: Kind::Double,
+            whole,
+            low: f64::to_bits(low),
+            high: f64::to_bits(high),
+        };
+        assert_eq!(range, expected, "{operation:?} {a:?} {b:?}");
+    }
+}
+
+/// Their refusals on a sheet, the first reason of those that are true.
+#[test]
+fn refusals_of_sums_and_products() {
+    use Operation::{Add, Multiply, Subtract};
+    const INFINITY: f64 = f64::INFINITY;
+    const MAX: f64 = f64::MAX;
+    for operation in [Add, Subtract, Multiply] {
+        for (a, b, cause, operand) in [
+            ([-INFINITY, 1.0], [0.0, 1.0], Cause::ALowInfinite, 0),
+            ([0.0, INFINITY], [0.0, 1.0], Cause::AHighInfinite, 0),
+            ([0.0, 1.0], [-INFINITY, 1.0], Cause::BLowInfinite, 1),
+            ([0.0, 1.0], [0.0, INFINITY], Cause::BHighInfinite, 1),
+            (
+                [-INFINITY, INFINITY],
+                [-INFINITY, INFINITY],
+                Cause::ALowInfinite,
+                0,
+            ),
+            ([-MAX, INFINITY], [-MAX, MAX], Cause::AHighInfinite, 0),
+            ([-MAX, MAX], [-MAX, INFINITY], Cause::BHighInfinite, 1),
+        ] {
+            let recipe = step_on(operation, [a, b]);
+            let refused = sheet(recipe.as_bytes(), &mut [0; MOST_SHEET]).unwrap_err();
+            assert_eq!(refused, turned_down(Fault::Remainder, 2), "{operation:?}");
+            let step = 2;
+            let why = Explanation::Refused {
+                cause,
+                step,
+                operand,
+            };
+            assert_eq!(explain(recipe.as_bytes()), Ok(why), "{operation:?}");
+        }
+    }
+    for (operation, a, b, cause) in [
+        (Add, [-MAX, 0.0], [-MAX, 0.0], Cause::AnswerLowOverflows),
+        (Add, [0.0, MAX], [0.0, MAX], Cause::AnswerHighOverflows),
+        (Add, [-MAX, MAX], [-MAX, MAX], Cause::AnswerLowOverflows),
+        (Subtract, [-MAX, 0.0], [0.0, MAX], Cause::AnswerLowOverflows),
+        (
+            Subtract,
+            [0.0, MAX],
+            [-MAX, 0.0],
+            Cause::AnswerHighOverflows,
+        ),
+        (Multiply, [-2.0, 0.0], [0.0, MAX], Cause::AnswerLowOverflows),
+        (
+            Multiply,
+            [-2.0, 0.0],
+            [-MAX, 0.0],
+            Cause::AnswerHighOverflows,
+        ),
+        (
+            Multiply,
+            [-2.0, 1.0],
+            [-MAX, 1.0],
+            Cause::AnswerHighOverflows,
+        ),
+        (
+            Multiply,
+            [-2.0, 2.0],
+            [-1.0, MAX],
+            Cause::AnswerLowOverflows,
+        ),
+    ] {
+        let recipe = step_on(operation, [a, b]);
+        let refused = sheet(recipe.as_bytes(), &mut [0; MOST_SHEET]).unwrap_err();
+        assert_eq!(refused, turned_down(Fault::Overflow, 2), "{operation:?}");
+        let why = Explanation::Refused {
+            cause,
+            step: 2,
+            operand: 0,
+        };
+        assert_eq!(
+            explain(recipe.as_bytes()),
+            Ok(why),
+            "{operation:?} {a:?} {b:?}"
+        );
+    }
+}
+
+/// Their values are the language's own, refused 20 for an infinite operand and then 21 for an infinite result.
+#[test]
+fn values_of_sums_and_products() {
+    type Own = fn(f64, f64) -> f64;
+    let operations: [(Operation, Own); 3] = [
+        (Operation::Add, |x, y| x + y),
+        (Operation::Subtract, |x, y| x - y),
+        (Operation::Multiply, |x, y| x * y),
+    ];
+    let numbers = [
+        0.0,
+        5e-324,
+        f64::MIN_POSITIVE,
+        0.1,
+        0.5,
+        1.0 + f64::EPSILON,
+        3000.0,
+        9007199254740993.0,
+        9007199254740994.0,
+        1e200,
+        f64::MAX,
+        f64::INFINITY,
+    ];
+    let numbers: Vec<f64> = numbers.into_iter().flat_map(|x| [x, -x]).collect();
+    let any = [-f64::INFINITY, f64::INFINITY];
+    for (operation, own) in operations {
+        let recipe = step_on(operation, [any, any]);
+        let (mut answered, mut infinite, mut overflowed) = (0, 0, 0);
+        for (x, y) in numbers
+            .iter()
+            .flat_map(|&x| numbers.iter().map(move |&y| (x, y)))
+        {
+            let frame = format!("{:016x}{:016x}", x.to_bits(), y.to_bits());
+            let answer = run(recipe.as_bytes(), frame.as_bytes(), &mut [0; MOST_STEPS]);
+            let answer = answer.map(|value| match value {
+                Value::Double(x) => x.to_bits(),
+                other => panic!("{other:?}"),
+            });
+            let expected = if x.is_infinite() || y.is_infinite() {
+                infinite += 1;
+                Err(turned_down(Fault::Remainder, 2))
+            } else if own(x, y).is_infinite() {
+                overflowed += 1;
+                Err(turned_down(Fault::Overflow, 2))
+            } else {
+                answered += 1;
+                Ok(own(x, y).to_bits())
+            };
+            assert_eq!(answer, expected, "{operation:?} {x:?} {y:?}");
+        }
+        assert_eq!(infinite, 4 * 24 - 4);
+        assert!(answered > 400 && overflowed >= 2, "{answered} {overflowed}");
+    }
 }
 
 /// The lines of a sheet that passes, as values.
