@@ -202,7 +202,10 @@ impl<'a> Assembler<'a> {
         operands: &[Word<'a>],
     ) -> Result<(Step, Word<'a>), Box<Diagnostic>> {
         let Some(operation) = operation_named(verb.text) else {
-            return Err(no_operation(line, name, verb).into());
+            let slip = self.between(line, name, verb, operands);
+            return Err(slip
+                .unwrap_or_else(|| no_operation(line, name, verb))
+                .into());
         };
         let kinds = operation.operands();
         if operands.len() != kinds.len() {
@@ -215,11 +218,14 @@ impl<'a> Assembler<'a> {
                 )
                 .into());
         }
+        let instead = self.of_the_other_kind(operation, operands);
         // Literals are pushed only when all operands are known to be right, so that a line with a slip leaves no step behind.
         let read: Vec<Operand> = operands
             .iter()
             .zip(kinds)
-            .map(|(&operand, &kind)| self.read_operand(line, name, operation, operand, kind))
+            .map(|(&operand, &kind)| {
+                self.read_operand(line, name, (operation, instead), operand, kind)
+            })
             .collect::<Result<_, _>>()?;
         let mut places = [0; 2];
         for ((place, operand), word) in places.iter_mut().zip(read).zip(operands) {
@@ -244,11 +250,78 @@ impl<'a> Assembler<'a> {
         ))
     }
 
+    /// The kind of a step that was named, and of which no slip was told.
+    fn kind_of(&self, text: &str) -> Option<Kind> {
+        Some(self.named.get(text)?.step?.1)
+    }
+
+    /// The operation that does the same to the other kind, where all operands are of that one: add for sum, and so on.
+    fn of_the_other_kind(&self, operation: Operation, operands: &[Word]) -> Option<Operation> {
+        let other = match operation {
+            Operation::Sum => Operation::Add,
+            Operation::Difference => Operation::Subtract,
+            Operation::Add => Operation::Sum,
+            Operation::Subtract => Operation::Difference,
+            _ => return None,
+        };
+        let fits = |(operand, &kind): (&Word, &Kind)| match is_number(operand.text) {
+            true => number::read(operand.text, kind).is_ok(),
+            false => self.kind_of(operand.text) == Some(kind),
+        };
+        operands
+            .iter()
+            .zip(other.operands())
+            .all(fits)
+            .then_some(other)
+    }
+
+    /// The slip of a line whose operation stands between its operands: `u * 3000`, or `u*3000`.
+    fn between(
+        &self,
+        line: usize,
+        name: Word,
+        verb: Word,
+        operands: &[Word],
+    ) -> Option<Diagnostic> {
+        let is_operand = |text: &str| match is_number(text) {
+            true => number::read(text, Kind::Double).is_ok(),
+            false => is_name(text),
+        };
+        let text = verb.text;
+        let parts: Vec<(&str, &str, &str)> = match operands {
+            // + and - come last, since a number may have them too.
+            [] => SIGNS
+                .iter()
+                .flat_map(|&sign| text.match_indices(sign))
+                .map(|(place, sign)| (&text[..place], sign, &text[place + 1..]))
+                .collect(),
+            [sign, b] if SIGNS.contains(&sign.text) => vec![(text, sign.text, b.text)],
+            _ => vec![],
+        };
+        let (a, sign, b) = parts
+            .into_iter()
+            .find(|(a, _, b)| is_operand(a) && is_operand(b))?;
+        let kinds = [a, b].map(|text| self.kind_of(text));
+        let operation = match (sign, kinds.contains(&Some(Kind::Whole))) {
+            ("*", _) => Operation::Multiply,
+            ("%", _) => Operation::Fmod,
+            ("+", false) => Operation::Add,
+            ("+", true) => Operation::Sum,
+            (_, false) => Operation::Subtract,
+            (_, true) => Operation::Difference,
+        };
+        Some(verb.slip(
+            line,
+            "an operation stands before its operands",
+            format!("write {} = {} {a} {b}", name.text, operation.name()),
+        ))
+    }
+
     fn read_operand(
         &self,
         line: usize,
         name: Word,
-        operation: Operation,
+        (operation, instead): (Operation, Option<Operation>),
         operand: Word,
         kind: Kind,
     ) -> Result<Operand, Box<Diagnostic>> {
@@ -274,11 +347,15 @@ impl<'a> Assembler<'a> {
                         operation.name(),
                         kind_words(kind)
                     ),
-                    match is {
-                        Kind::Whole => {
-                            format!("put a step before it: x = to_double {text}, and use x")
-                        }
-                        _ => format!("put a step before it: x = lround {text}, and use x"),
+                    {
+                        let or = instead.map_or(String::new(), |other| {
+                            format!("of {}s it is {}; or ", bare_kind(is), other.name())
+                        });
+                        let between = match is {
+                            Kind::Whole => "to_double",
+                            _ => "lround",
+                        };
+                        format!("{or}put a step before it: x = {between} {text}, and use x")
                     },
                 )
                 .into()),
@@ -394,14 +471,18 @@ fn is_number(text: &str) -> bool {
         || ["inf", "infinity", "nan"].contains(&lower.as_str())
 }
 
+fn is_name(text: &str) -> bool {
+    text.starts_with(|c: char| c.is_ascii_alphabetic() || c == '_')
+        && text.chars().all(|c| c.is_ascii_alphanumeric() || c == '_')
+}
+
 fn check_name(line: usize, name: Word) -> Result<(), Box<Diagnostic>> {
     let text = name.text;
     let help = "a name is letters, digits and _, and does not start with a digit";
-    let first = text.starts_with(|c: char| c.is_ascii_alphabetic() || c == '_');
     if text == "=" {
         return Err(name.slip(line, "no name before the =", help).into());
     }
-    if !first || !text.chars().all(|c| c.is_ascii_alphanumeric() || c == '_') {
+    if !is_name(text) {
         return Err(name.slip(line, format!("{text} is no name"), help).into());
     }
     if is_number(text) {
@@ -501,13 +582,27 @@ fn operation_named(name: &str) -> Option<Operation> {
     Operation::all().find(|operation| !operation.operands().is_empty() && operation.name() == name)
 }
 
+/// What stands between operands elsewhere.
+const SIGNS: [&str; 4] = ["*", "%", "+", "-"];
+
+/// Of doubles and of whole numbers there are two operations.
+const ADD: &str = "add, or sum of whole numbers";
+const SUBTRACT: &str = "subtract, or difference of whole numbers";
+
 /// What people write for an operation that has another name here.
-const OTHER_NAMES: [(&str, &str); 23] = [
-    ("+", "sum"),
-    ("-", "difference"),
-    ("add", "sum"),
-    ("sub", "difference"),
-    ("subtract", "difference"),
+const OTHER_NAMES: [(&str, &str); 30] = [
+    ("+", ADD),
+    ("plus", ADD),
+    ("-", SUBTRACT),
+    ("minus", SUBTRACT),
+    ("sub", SUBTRACT),
+    ("fsub", "subtract"),
+    ("*", "multiply"),
+    ("mul", "multiply"),
+    ("mult", "multiply"),
+    ("fmul", "multiply"),
+    ("times", "multiply"),
+    ("product", "multiply"),
     ("min", "fmin"),
     ("max", "fmax"),
     ("%", "fmod"),
@@ -665,6 +760,15 @@ mod tests {
              30000800000000000000000000000000000000\n"
         );
         assert_eq!(
+            lines("u = input 0 .. 1\nx = multiply u 3000\ny = subtract x 0.5\nz = add y x"),
+            "01000000000000000000003ff0000000000000\n\
+             03000040a77000000000000000000000000000\n\
+             42000100000000000000000000000000000000\n\
+             0300003fe00000000000000000000000000000\n\
+             41020300000000000000000000000000000000\n\
+             40040200000000000000000000000000000000\n"
+        );
+        assert_eq!(
             lines("u = input 0 .. 1\nx = remainder u 360"),
             "01000000000000000000003ff0000000000000\n\
              03000040768000000000000000000000000000\n\
@@ -679,7 +783,7 @@ mod tests {
 
     #[test]
     fn slips_are_told_at_their_place() {
-        let cases: [(&str, usize, usize, &str, &str); 38] = [
+        let cases: [(&str, usize, usize, &str, &str); 58] = [
             (
                 "u = input 0 .. 1\nf = floor w",
                 2,
@@ -757,6 +861,149 @@ mod tests {
                 5,
                 "there is no operation rem",
                 "fmod, ldexp, remainder, sum",
+            ),
+            (
+                "u = input 0 .. 1\nf = mul u 3000",
+                2,
+                5,
+                "there is no operation mul",
+                "did you mean multiply?",
+            ),
+            (
+                "u = input 0 .. 1\nf = multipli u 3000",
+                2,
+                5,
+                "there is no operation multipli",
+                "did you mean multiply?",
+            ),
+            (
+                "u = input 0 .. 1\nf = sub u 0.5",
+                2,
+                5,
+                "there is no operation sub",
+                "did you mean subtract, or difference of whole numbers?",
+            ),
+            (
+                "u = input 0 .. 1\nf = substract u 0.5",
+                2,
+                5,
+                "there is no operation substract",
+                "did you mean subtract?",
+            ),
+            (
+                "u = input 0 .. 1\nf = plus u 0.5",
+                2,
+                5,
+                "there is no operation plus",
+                "did you mean add, or sum of whole numbers?",
+            ),
+            (
+                "u = input 0 .. 1\nf = addd u 0.5",
+                2,
+                5,
+                "there is no operation addd",
+                "did you mean add?",
+            ),
+            (
+                "u = input 0 .. 1\nf = add u",
+                2,
+                5,
+                "add has 2 operands, and 1 stand here",
+                "write add A B, where A and B are doubles",
+            ),
+            (
+                "n = input whole 0 .. 1\nf = multiply 1 n",
+                2,
+                16,
+                "n is a whole number, and multiply needs a double there",
+                "put a step before it: x = to_double n",
+            ),
+            // Where all operands are of the other kind, the operation of that kind is named.
+            (
+                "n = input whole 0 .. 1\nf = add n 1",
+                2,
+                9,
+                "n is a whole number, and add needs a double there",
+                "of whole numbers it is sum; or put a step before it: x = to_double n",
+            ),
+            (
+                "u = input 0 .. 1\nf = difference u 0.5",
+                2,
+                16,
+                "u is a double, and difference needs a whole number there",
+                "of doubles it is subtract; or put a step before it: x = lround u",
+            ),
+            (
+                "n = input whole 0 .. 1\nu = input 0 .. 1\nf = add n u",
+                3,
+                9,
+                "n is a whole number, and add needs a double there",
+                "put a step before it: x = to_double n, and use x",
+            ),
+            // Signs between operands.
+            (
+                "u = input 0 .. 1\nf = u * 3000",
+                2,
+                5,
+                "an operation stands before its operands",
+                "write f = multiply u 3000",
+            ),
+            (
+                "u = input 0 .. 1\nf = 1e-3*u",
+                2,
+                5,
+                "an operation stands before its operands",
+                "write f = multiply 1e-3 u",
+            ),
+            (
+                "u = input 0 .. 1\nf = u - 0.5",
+                2,
+                5,
+                "an operation stands before its operands",
+                "write f = subtract u 0.5",
+            ),
+            (
+                "u = input 0 .. 1\nf = u-1e-3",
+                2,
+                5,
+                "an operation stands before its operands",
+                "write f = subtract u 1e-3",
+            ),
+            (
+                "n = input whole 0 .. 1\nf = n + 1",
+                2,
+                5,
+                "an operation stands before its operands",
+                "write f = sum n 1",
+            ),
+            (
+                "n = input whole 0 .. 1\nf = 1 - n",
+                2,
+                5,
+                "an operation stands before its operands",
+                "write f = difference 1 n",
+            ),
+            (
+                "u = input 0 .. 1\nf = u % 0.25",
+                2,
+                5,
+                "an operation stands before its operands",
+                "write f = fmod u 0.25",
+            ),
+            // A slip of another sort, with a sign in it.
+            (
+                "u = input 0 .. 1\nf = flor -1",
+                2,
+                5,
+                "there is no operation flor",
+                "did you mean floor?",
+            ),
+            (
+                "f = 1e-3",
+                1,
+                5,
+                "1e-3 is a number, and no operation",
+                "write f = constant 1e-3",
             ),
             (
                 "u = input 0 .. 1\nf = remainder u",

@@ -3,7 +3,7 @@
 
 use crate::number::{self, Slip};
 use crate::recipe::Recipe;
-use estrenwind::{Fault, Kind, TurnedDown, Value, FRAME_INPUT, MOST_FRAME, MOST_INPUTS};
+use estrenwind::{Fault, Kind, Operation, TurnedDown, Value, FRAME_INPUT, MOST_FRAME, MOST_INPUTS};
 
 /// Bytes of a line that is looked into. Sixteen numbers of 200 digits fit.
 pub const LONGEST_LINE: usize = 4 << 10;
@@ -101,7 +101,7 @@ pub fn answer_text(recipe: &Recipe, answer: Result<Value, TurnedDown>) -> String
 }
 
 /// `refused 32 at u: the input is a NaN or outside its range`. The crate's words for 30 and 31 are of hexadecimal digits, which a decimal frame
-/// does not have; those for 20 are of both steps that leave a remainder, and here it is known which of them it was.
+/// does not have; those for 20 are of every step that is refused with it, and here it is known which of them it was.
 pub fn refusal_text(recipe: &Recipe, refused: TurnedDown, decimal: bool) -> String {
     let number = refused.fault.number();
     match refused.fault {
@@ -114,8 +114,13 @@ pub fn refusal_text(recipe: &Recipe, refused: TurnedDown, decimal: bool) -> Stri
         fault @ (Fault::Frame | Fault::FrameDigit) => format!("refused {number}: {fault}"),
         fault => match (recipe.names.get(refused.place), fault) {
             (Some(name), Fault::Remainder) => {
-                let operation = recipe.steps[refused.place].operation.name();
-                format!("refused {number} at {name}: {operation} of an infinite number, or by zero")
+                let operation = recipe.steps[refused.place].operation;
+                let or_by_zero = match operation {
+                    Operation::Fmod | Operation::Remainder => ", or by zero",
+                    _ => "",
+                };
+                let operation = operation.name();
+                format!("refused {number} at {name}: {operation} of an infinite number{or_by_zero}")
             }
             (Some(name), fault) => format!("refused {number} at {name}: {fault}"),
             (None, fault) => format!("refused {number}: {fault}"),
@@ -126,7 +131,7 @@ pub fn refusal_text(recipe: &Recipe, refused: TurnedDown, decimal: bool) -> Stri
 #[cfg(test)]
 mod tests {
     use super::*;
-    use estrenwind::{Operation, Step};
+    use estrenwind::Step;
 
     /// Inputs x, a double, and n, a whole number; the name of the answer is y.
     fn recipe() -> Recipe {
@@ -249,10 +254,19 @@ mod tests {
         assert_eq!(text(Fault::Other(99), 9, true), "refused 99: refusal 99");
     }
 
-    /// 20 names the step's own operation.
+    /// 20 names the step's own operation, and what of it is refused.
     #[test]
-    fn refused_remainders() {
-        for operation in [Operation::Fmod, Operation::Remainder] {
+    fn refused_operands() {
+        for (operation, words) in [
+            (Operation::Fmod, "fmod of an infinite number, or by zero"),
+            (
+                Operation::Remainder,
+                "remainder of an infinite number, or by zero",
+            ),
+            (Operation::Add, "add of an infinite number"),
+            (Operation::Subtract, "subtract of an infinite number"),
+            (Operation::Multiply, "multiply of an infinite number"),
+        ] {
             let mut recipe = recipe();
             recipe.steps[2].operation = operation;
             let refused = TurnedDown {
@@ -261,10 +275,7 @@ mod tests {
             };
             assert_eq!(
                 refusal_text(&recipe, refused, true),
-                format!(
-                    "refused 20 at y: {} of an infinite number, or by zero",
-                    operation.name()
-                )
+                format!("refused 20 at y: {words}")
             );
         }
     }

@@ -69,6 +69,10 @@ mod tests {
             again("u = input 0 .. 1\nx = fmax u 0.5\ny = fmin 1 2\nz = fmod x 0x1p-1\nw = remainder x 0x1p-2"),
             "s0 = input 0 .. 1\ns2 = fmax s0 0.5\ns5 = fmin 1 2\ns7 = fmod s2 0.5\ns9 = remainder s2 0.25\n"
         );
+        assert_eq!(
+            again("u = input 0 .. 1\nx = multiply u 3000\ny = subtract 0.5 x\nz = add y y"),
+            "s0 = input 0 .. 1\ns2 = multiply s0 3000\ns4 = subtract 0.5 s2\ns5 = add s4 s4\n"
+        );
     }
 
     #[test]

@@ -59,10 +59,16 @@ impl<'a> Reason<'a> {
         let other = self.recipe.steps[self.step].b;
         match self.cause {
             Cause::DivisorHoldsZero => format!("{operation} by {operand} holds zero"),
-            Cause::DividendLowInfinite | Cause::LdexpLowInfinite => {
+            Cause::DividendLowInfinite
+            | Cause::LdexpLowInfinite
+            | Cause::ALowInfinite
+            | Cause::BLowInfinite => {
                 format!("{operation} of {operand} has an infinite low end")
             }
-            Cause::DividendHighInfinite | Cause::LdexpHighInfinite => {
+            Cause::DividendHighInfinite
+            | Cause::LdexpHighInfinite
+            | Cause::AHighInfinite
+            | Cause::BHighInfinite => {
                 format!("{operation} of {operand} has an infinite high end")
             }
             Cause::LroundLow => {
@@ -96,6 +102,15 @@ impl<'a> Reason<'a> {
                     "high"
                 };
                 format!("{operation} of {operand} has a {end} end over 2^53 in magnitude, where not every whole number has a double")
+            }
+            Cause::AnswerLowOverflows | Cause::AnswerHighOverflows => {
+                let end = if self.cause == Cause::AnswerLowOverflows {
+                    "low"
+                } else {
+                    "high"
+                };
+                format!("{operation} of {operand}, and {}: the {end} end of the answer is beyond every double", self.whose(other))
+                    .replace(", whose range", " within")
             }
             _ => Explanation::Refused {
                 cause: self.cause,

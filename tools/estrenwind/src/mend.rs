@@ -6,32 +6,62 @@ use crate::number;
 use crate::recipe::{constant, text_of};
 use estrenwind::{explain, Cause, Explanation, Kind, Operation, Step};
 
+/// An input from another low end, to another high end, or both.
+#[derive(Clone, Copy, Debug)]
+struct Declared {
+    input: usize,
+    low: Option<u64>,
+    high: Option<u64>,
+}
+
+/// Which operands of a step are exchanged for a bounded one.
+#[derive(Clone, Copy, Debug, PartialEq, Eq)]
+enum Place {
+    A,
+    B,
+    /// Of a step whose A and B are one step.
+    Both,
+}
+
 /// A change to a recipe.
 #[derive(Clone, Copy, Debug)]
 enum Mend {
-    /// An input from another low end, to another high end, or both.
-    Declare {
-        input: usize,
-        low: Option<u64>,
-        high: Option<u64>,
-    },
-    /// fmin or fmax of the operand A (or B) of a step with a number, put before the step.
+    Declare(Declared),
+    /// Two inputs at once.
+    DeclareBoth([Declared; 2]),
+    /// fmin or fmax of an operand of a step with a number, put before the step.
     Bound {
         at: usize,
-        on_b: bool,
+        on: Place,
         operation: Operation,
         limit: f64,
     },
-    /// Both: fmax with one number and fmin with another, of the operand A of a step.
-    Clamp { at: usize, low: f64, high: f64 },
+    /// Both: fmax with one number and fmin with another.
+    Clamp {
+        at: usize,
+        on: Place,
+        low: f64,
+        high: f64,
+    },
     /// Another constant.
-    Constant { step: usize, word: u64 },
+    Constant {
+        step: usize,
+        word: u64,
+    },
+}
+
+/// The operand of a step at a place.
+fn operand_of(step: &Step, on: Place) -> usize {
+    match on {
+        Place::B => step.b,
+        Place::A | Place::Both => step.a,
+    }
 }
 
 /// Steps with fmin or fmax put before step `at`, and the same on its operand. Later steps move by two.
-fn bounded(steps: &[Step], at: usize, on_b: bool, operation: Operation, limit: f64) -> Vec<Step> {
+fn bounded(steps: &[Step], at: usize, on: Place, operation: Operation, limit: f64) -> Vec<Step> {
     let moved = |k: usize| if k < at { k } else { k + 2 };
-    let operand = if on_b { steps[at].b } else { steps[at].a };
+    let operand = operand_of(&steps[at], on);
     let mut mended = steps[..at].to_vec();
     mended.push(constant(Kind::Double, limit.to_bits()));
     mended.push(Step {
@@ -49,33 +79,42 @@ fn bounded(steps: &[Step], at: usize, on_b: bool, operation: Operation, limit: f
             ..*step
         }
     }));
-    let place = if on_b {
-        &mut mended[at + 2].b
-    } else {
-        &mut mended[at + 2].a
-    };
-    *place = at + 1;
+    let step = &mut mended[at + 2];
+    if on != Place::B {
+        step.a = at + 1;
+    }
+    if on != Place::A {
+        step.b = at + 1;
+    }
     mended
+}
+
+fn declare(steps: &mut [Step], declared: Declared) {
+    let input = &mut steps[declared.input];
+    input.p = declared.low.unwrap_or(input.p);
+    input.q = declared.high.unwrap_or(input.q);
 }
 
 impl Mend {
     fn made(&self, steps: &[Step]) -> Vec<Step> {
         let mut mended = steps.to_vec();
         match *self {
-            Mend::Declare { input, low, high } => {
-                mended[input].p = low.unwrap_or(mended[input].p);
-                mended[input].q = high.unwrap_or(mended[input].q);
+            Mend::Declare(declared) => declare(&mut mended, declared),
+            Mend::DeclareBoth(both) => {
+                for declared in both {
+                    declare(&mut mended, declared);
+                }
             }
             Mend::Constant { step, word } => mended[step].p = word,
             Mend::Bound {
                 at,
-                on_b,
+                on,
                 operation,
                 limit,
-            } => return bounded(steps, at, on_b, operation, limit),
-            Mend::Clamp { at, low, high } => {
-                let once = bounded(steps, at, false, Operation::Fmax, low);
-                return bounded(&once, at + 2, false, Operation::Fmin, high);
+            } => return bounded(steps, at, on, operation, limit),
+            Mend::Clamp { at, on, low, high } => {
+                let once = bounded(steps, at, on, Operation::Fmax, low);
+                return bounded(&once, at + 2, on, Operation::Fmin, high);
             }
         }
         mended
@@ -91,45 +130,50 @@ impl Mend {
         let name = |k: usize| &reason.recipe.names[k];
         let it = |k: usize| if k == reason.step { "it" } else { name(k) };
         let double = |x: f64| number::word_text(Kind::Double, x.to_bits());
-        match *self {
-            Mend::Declare { input, low, high } => {
-                let text = |word: u64| number::word_text(reason.recipe.kind(input), word);
-                match (low, high) {
-                    (Some(low), Some(high)) => format!(
-                        "declare {} from {} to {}",
-                        name(input),
-                        text(low),
-                        text(high)
-                    ),
-                    (Some(low), None) => format!("declare {} from {}", name(input), text(low)),
-                    (_, high) => {
-                        format!("declare {} up to {}", name(input), text(high.unwrap_or(0)))
-                    }
+        // The range of an input, as it is to be declared.
+        let range = |declared: Declared| {
+            let Declared { input, low, high } = declared;
+            let text = |word: u64| number::word_text(reason.recipe.kind(input), word);
+            match (low, high) {
+                (Some(low), Some(high)) => {
+                    format!("{} from {} to {}", name(input), text(low), text(high))
                 }
+                (Some(low), None) => format!("{} from {}", name(input), text(low)),
+                (_, high) => format!("{} up to {}", name(input), text(high.unwrap_or(0))),
             }
+        };
+        let operand = |at: usize, on: Place| name(operand_of(&reason.recipe.steps[at], on));
+        let both = |on: Place| {
+            if on == Place::Both {
+                ", for A and B"
+            } else {
+                ""
+            }
+        };
+        match *self {
+            Mend::Declare(declared) => format!("declare {}", range(declared)),
+            Mend::DeclareBoth([a, b]) => format!("declare {}, and {}", range(a), range(b)),
             Mend::Bound {
                 at,
-                on_b,
+                on,
                 operation,
                 limit,
-            } => {
-                let step = &reason.recipe.steps[at];
-                let operand = name(if on_b { step.b } else { step.a });
-                format!(
-                    "put {} {operand} {} before {}",
-                    operation.name(),
-                    double(limit),
-                    it(at)
-                )
-            }
-            Mend::Clamp { at, low, high } => {
-                let operand = name(reason.recipe.steps[at].a);
-                let (low, high) = (double(low), double(high));
-                format!(
-                    "put fmax {operand} {low}, and fmin of that with {high}, before {}",
-                    it(at)
-                )
-            }
+            } => format!(
+                "put {} {} {} before {}{}",
+                operation.name(),
+                operand(at, on),
+                double(limit),
+                it(at),
+                both(on)
+            ),
+            Mend::Clamp { at, on, low, high } => format!(
+                "put fmax {} {}, and fmin of that with {}, before {}{}",
+                operand(at, on),
+                double(low),
+                double(high),
+                it(at),
+                both(on)
+            ),
             Mend::Constant { step, word } => {
                 let number = number::word_text(reason.recipe.kind(step), word);
                 format!("take {number} in the place of the constant {}", name(step))
@@ -175,8 +219,9 @@ fn declarations(reason: &Reason) -> Vec<Mend> {
     let operand = reason.operand;
     let is_input = |k: usize| operation_at(reason, k).is_input();
     let step = reason.recipe.steps[reason.step];
-    let declare =
-        |input: usize, low: Option<u64>, high: Option<u64>| Mend::Declare { input, low, high };
+    let declare = |input: usize, low: Option<u64>, high: Option<u64>| {
+        Mend::Declare(Declared { input, low, high })
+    };
     let double = |x: f64| Some(x.to_bits());
     match reason.cause {
         Cause::DivisorHoldsZero if is_input(operand) => match off_zero(reason) {
@@ -198,13 +243,28 @@ fn declarations(reason: &Reason) -> Vec<Mend> {
         | Cause::LroundHigh
             if is_input(operand) =>
         {
-            within(
-                &[operand],
-                &limits(reason)
-                    .iter()
-                    .map(|x| [-x, *x].map(f64::to_bits))
-                    .collect::<Vec<_>>(),
-            )
+            within(&[operand], &double_ends_of(limits(reason)))
+        }
+        Cause::ALowInfinite
+        | Cause::AHighInfinite
+        | Cause::BLowInfinite
+        | Cause::BHighInfinite
+        | Cause::AnswerLowOverflows
+        | Cause::AnswerHighOverflows => {
+            let operands: Vec<usize> = places(&step)
+                .iter()
+                .map(|&on| operand_of(&step, on))
+                .collect();
+            let inputs: Vec<usize> = operands.iter().copied().filter(|&k| is_input(k)).collect();
+            let mut mends = within(&inputs, &double_ends_of(&WIDE));
+            mends.extend(other_constants(reason, &operands));
+            // Where A and B have infinite ends, neither change is enough alone.
+            if let [a, b] = inputs[..] {
+                mends.extend(WIDE.map(|limit| {
+                    Mend::DeclareBoth([a, b].map(|input| finite(reason, input, limit)))
+                }));
+            }
+            mends
         }
         Cause::WholeLow | Cause::WholeHigh => within(
             &whole_inputs(reason, &[step.a, step.b]),
@@ -235,6 +295,47 @@ fn declarations(reason: &Reason) -> Vec<Mend> {
     }
 }
 
+/// The operands of a step of two, once where they are one step.
+fn places(step: &Step) -> &'static [Place] {
+    if step.a == step.b {
+        &[Place::Both]
+    } else {
+        &[Place::A, Place::B]
+    }
+}
+
+/// The 64 bits of each double's negative, and its own.
+fn double_ends_of(limits: &[f64]) -> Vec<[u64; 2]> {
+    limits.iter().map(|x| [-x, *x].map(f64::to_bits)).collect()
+}
+
+/// An input with a limit in the place of each end that is infinite.
+fn finite(reason: &Reason, input: usize, limit: f64) -> Declared {
+    let (low, high) = double_ends(reason, input);
+    let instead = |end: f64| (!end.is_finite()).then(|| limit.copysign(end).to_bits());
+    Declared {
+        input,
+        low: instead(low),
+        high: instead(high),
+    }
+}
+
+/// Other values, of the same sign, for those of these steps that are constants.
+fn other_constants(reason: &Reason, steps: &[usize]) -> Vec<Mend> {
+    let constants = steps
+        .iter()
+        .filter(|&&k| operation_at(reason, k).is_constant());
+    constants
+        .flat_map(|&step| {
+            let (number, _) = double_ends(reason, step);
+            WIDE.map(|limit| Mend::Constant {
+                step,
+                word: limit.copysign(number).to_bits(),
+            })
+        })
+        .collect()
+}
+
 /// The 64 bits of a whole number's negative, and its own.
 fn whole_ends(limit: i64) -> [u64; 2] {
     [-limit, limit].map(|end| end as u64)
@@ -250,7 +351,7 @@ fn within(inputs: &[usize], ranges: &[[u64; 2]]) -> Vec<Mend> {
                 (None, Some(high)),
                 (Some(low), Some(high)),
             ];
-            mends.extend(ends.map(|(low, high)| Mend::Declare { input, low, high }));
+            mends.extend(ends.map(|(low, high)| Mend::Declare(Declared { input, low, high })));
         }
     }
     mends
@@ -283,32 +384,49 @@ fn whole_inputs(reason: &Reason, steps: &[usize]) -> Vec<usize> {
 /// fmin and fmax put in.
 fn insertions(reason: &Reason) -> Vec<Mend> {
     let at = reason.step;
-    let bound = |at: usize, operation, limit| Mend::Bound {
-        at,
-        on_b: false,
-        operation,
-        limit,
-    };
-    let both = |at: usize, limit: f64| {
+    let bounds = |at: usize, on: Place, limit: f64| {
+        let bound = |operation, limit| Mend::Bound {
+            at,
+            on,
+            operation,
+            limit,
+        };
         [
-            bound(at, Operation::Fmax, -limit),
-            bound(at, Operation::Fmin, limit),
+            bound(Operation::Fmax, -limit),
+            bound(Operation::Fmin, limit),
             Mend::Clamp {
                 at,
+                on,
                 low: -limit,
                 high: limit,
             },
         ]
     };
+    let both = |at: usize, limit: f64| bounds(at, Place::A, limit);
     match reason.cause {
         Cause::DivisorHoldsZero => off_zero(reason)
             .map(|(operation, limit)| Mend::Bound {
                 at,
-                on_b: true,
+                on: Place::B,
                 operation,
                 limit,
             })
             .into_iter()
+            .collect(),
+        Cause::ALowInfinite
+        | Cause::AHighInfinite
+        | Cause::BLowInfinite
+        | Cause::BHighInfinite
+        | Cause::AnswerLowOverflows
+        | Cause::AnswerHighOverflows => WIDE
+            .iter()
+            .flat_map(|&limit| {
+                let step = reason.recipe.steps[at];
+                let is_worked =
+                    move |on: &&Place| !operation_at(reason, operand_of(&step, **on)).is_constant();
+                let places = places(&step).iter().filter(is_worked);
+                places.flat_map(move |&on| bounds(at, on, limit))
+            })
             .collect(),
         Cause::DividendLowInfinite
         | Cause::DividendHighInfinite
@@ -392,6 +510,12 @@ pub fn general(cause: Cause) -> &'static str {
         }
         Cause::TooBigLow | Cause::TooBigHigh => {
             "declare the whole inputs that it comes from narrower, or bound them while they are doubles, before lround"
+        }
+        Cause::ALowInfinite | Cause::AHighInfinite | Cause::BLowInfinite | Cause::BHighInfinite => {
+            "declare the inputs that A and B come from finite, or bound A and B with fmin and fmax"
+        }
+        Cause::AnswerLowOverflows | Cause::AnswerHighOverflows => {
+            "declare the inputs that A and B come from narrower, or bound A and B with fmin and fmax"
         }
         _ => "see docs/FORMATS.md",
     }

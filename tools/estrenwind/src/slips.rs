@@ -509,6 +509,35 @@ mod tests {
             1,
             "there is no opcode 25",
         );
+        for (opcode, name) in [("40", "add"), ("41", "subtract"), ("42", "multiply")] {
+            expect(
+                step(&format!("{opcode}000100000000000000000000000000000000")),
+                2,
+                5,
+                "B is step 1, which does not stand before step 1",
+            );
+            expect(
+                step(&format!("{opcode}000000000000000000010000000000000000")),
+                2,
+                7,
+                &format!("{name} does not use P"),
+            );
+            let whole = "02000000000000000000000000000000000000\n";
+            expect(
+                format!("{whole}{opcode}000000000000000000000000000000000000\n"),
+                2,
+                3,
+                &format!("A is step 0, a whole number, and {name} needs a double there"),
+            );
+        }
+        for opcode in ["33", "3f", "43"] {
+            expect(
+                step(&format!("{opcode}000000000000000000000000000000000000")),
+                2,
+                1,
+                &format!("there is no opcode {opcode}"),
+            );
+        }
         expect(
             step("0300007ff80000000000000000000000000000"),
             2,

@@ -273,6 +273,33 @@ step  name  operation        value  bits
         ));
     }
 
+    /// Two doubles without bounds, and their product: an infinite one is refused with 20, a product that is beyond every double with 21.
+    #[test]
+    fn products() {
+        let any = "010000fff00000000000007ff0000000000000\n";
+        let step = "42000100000000000000000000000000000000\n";
+        let product = recipe(&format!("{any}{any}{step}"), 2);
+        let expected = "\
+step  name  operation          value  bits
+   0  a0    input -inf .. inf    0.1  3fb999999999999a
+   1  a1    input -inf .. inf   3000  40a7700000000000
+   2  a2    multiply a0 a1       300  4072c00000000000
+";
+        assert_eq!(shown(&product, &[0.1, 3000.0]), expected);
+        let ends = |frame: &[f64], words: &str| {
+            let shown = shown(&product, frame);
+            assert!(shown.ends_with(words), "{shown}");
+        };
+        ends(
+            &[0.0, f64::INFINITY],
+            "\nrefused 20 at a2: multiply of an infinite number\nstep 2 is multiply a0 a1\n",
+        );
+        ends(
+            &[-1e200, 1e200],
+            "\nrefused 21 at a2: the answer does not fit\nstep 2 is multiply a0 a1\n",
+        );
+    }
+
     #[test]
     fn a_refused_input() {
         let expected = "\
