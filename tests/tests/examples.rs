@@ -60,7 +60,7 @@ fn shown_and_answered(example: &Path, recipe: &str, sheet: &str, answers: &str) 
 
 #[test]
 fn sheets_explanations_and_answers_are_the_reference_s() {
-    assert_eq!(examples().len(), 9);
+    assert_eq!(examples().len(), 12);
     for example in examples() {
         shown_and_answered(&example, "recipe", "sheet", "answers");
         let explained = text(explain_output(
@@ -78,7 +78,7 @@ fn sheets_explanations_and_answers_are_the_reference_s() {
 
 #[test]
 fn slips_are_mended() {
-    assert_eq!(slips().len(), 3);
+    assert_eq!(slips().len(), 5);
     for example in slips() {
         shown_and_answered(&example, "mended", "mended_sheet", "mended_answers");
         assert_ne!(read(&example, "explanation"), "00\n");
@@ -237,6 +237,75 @@ fn the_order_of_rounding_and_bounding_matters_to_the_mark() {
         (mark(&lookup, 5), mark(&clamp, 5)),
         ("01".into(), "00".into())
     );
+}
+
+/// What the README of the texture that is 3000 wide says: by round the texel is that of floor without the half, at the middles and on
+/// the edges of the texels too; by nearbyint it is another on every other edge; and without the bounds it leaves the texture at both ends.
+#[test]
+fn the_nearest_middle_is_the_texel() {
+    let folder = Path::new(env!("CARGO_MANIFEST_DIR")).join("../examples/texture_scale");
+    let recipe = read(&folder, "recipe");
+    let lines: Vec<&str> = recipe.lines().collect();
+    let with = |step: usize, line: &str| -> String {
+        let mut lines = lines.clone();
+        lines[step] = line;
+        lines.join("\n") + "\n"
+    };
+    let [round, floor, nearbyint] = ["1304", "1002", "1404"].map(|line| format!("{line:0<38}"));
+    assert_eq!(lines[5], round);
+    let [by_floor, by_nearbyint] = [with(5, &floor), with(5, &nearbyint)];
+    // Coordinates whose product with 3000 is exact: k and a half of a texel, for middles and edges, where there is one.
+    let exact = (0..=6000u32).map(|halves| f64::from(halves) / 6000.0);
+    let frames: Vec<f64> = exact
+        .filter(|u| (u * 3000.0 * 2.0).fract() == 0.0)
+        .collect();
+    let edges = frames.iter().filter(|u| (*u * 3000.0).fract() == 0.0);
+    assert!(edges.count() > 1_000, "some of them are edges");
+    let input: String = frames
+        .iter()
+        .map(|u| format!("{:016x}\n", u.to_bits()))
+        .collect();
+    let answers = |recipe: &str| {
+        text(run_output(
+            Way::Exact,
+            format!("{recipe}\n{input}").as_bytes(),
+        ))
+    };
+    assert_eq!(answers(&recipe), answers(&by_floor));
+    let others = answers(&by_nearbyint);
+    let differ = others
+        .lines()
+        .zip(answers(&recipe).lines())
+        .filter(|(x, y)| x != y)
+        .count();
+    assert!(differ > 500, "{differ}");
+    // As the README has it: on the edge 3 texel 2, and on the edge 4 texel 4.
+    for (u, texel) in [(3.0 / 3000.0, 2), (4.0 / 3000.0, 4)] {
+        let frame = format!("{by_nearbyint}\n{:016x}", f64::to_bits(u));
+        let answer = text(run_output(Way::Exact, frame.as_bytes()));
+        assert_eq!(answer, format!("02{texel:016x}\n"));
+    }
+    let unbounded = lines[..6].join("\n") + "\n";
+    for (u, texel) in [(0.0, -1.0), (1.0, 3000.0)] {
+        let frame = format!("{unbounded}\n{:016x}", f64::to_bits(u));
+        let answer = text(run_output(Way::Exact, frame.as_bytes()));
+        assert_eq!(answer, format!("01{:016x}\n", f64::to_bits(texel)));
+    }
+}
+
+/// What the READMEs of the two slips with sums and products advise beside their mended recipes: to declare the light finite, or one of two
+/// lights narrower.
+#[test]
+fn one_bound_is_enough_for_lights() {
+    let folder = Path::new(env!("CARGO_MANIFEST_DIR")).join("../examples");
+    let passes =
+        |recipe: &str| !text(sheet_output(Way::Exact, recipe.as_bytes())).starts_with("ff");
+    let light = read(&folder.join("light_without_end"), "recipe");
+    let finite = light.replace("7ff0000000000000", "40effc0000000000");
+    assert!(!passes(&light) && passes(&finite));
+    let both = read(&folder.join("two_lights"), "recipe");
+    let one = both.replacen("7fefffffffffffff", "40effc0000000000", 1);
+    assert!(!passes(&both) && passes(&one));
 }
 
 /// What the README of the recipe that is turned down advises: to declare the width from 1, or to

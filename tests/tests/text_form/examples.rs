@@ -14,7 +14,7 @@ fn folders_with(name: &str) -> Vec<PathBuf> {
 
 #[test]
 fn text_forms_are_the_recipes() {
-    for (name, folders) in [("recipe", 9), ("mended", 3), ("nearest", 1)] {
+    for (name, folders) in [("recipe", 12), ("mended", 5), ("nearest", 1)] {
         let found = folders_with(name);
         assert_eq!(found.len(), folders);
         for folder in found {
