@@ -142,14 +142,14 @@ fn explained() -> Vec<(String, String)> {
     recipes
 }
 
-/// The header, the manual page and docs/FORMATS.md have all thirteen reasons, and the recipe that
+/// The header, the manual page and docs/FORMATS.md have all nineteen reasons, and the recipe that
 /// FORMATS has for each is explained by it.
 #[test]
 fn every_reason_is_told_of() {
     let header = read("include/estrenwind.h");
     let page = read("man/explain.1");
     let recipes = explained();
-    assert_eq!(recipes.len(), 13);
+    assert_eq!(recipes.len(), 19);
     for (code, (line, recipe)) in (1u64..).zip(&recipes) {
         assert_eq!(
             explain_output(Way::Exact, recipe.as_bytes()),
@@ -165,7 +165,70 @@ fn every_reason_is_told_of() {
         );
     }
     let names = header.matches("    EW_REASON_").count();
-    assert_eq!(names, 14, "thirteen and EW_REASON_NONE");
+    assert_eq!(names, 20, "nineteen and EW_REASON_NONE");
+}
+
+/// Steps 40 to 42 share the reasons 0e to 13: the recipes that docs/FORMATS.md has for these have all three among them, and each is
+/// explained by the same line where another of the three stands in its place and the fact is true of that. Which operand a code names is in
+/// the manual page, the rules and FORMATS.
+#[test]
+fn sums_and_products_are_told_of() {
+    let recipes = explained();
+    let mut opcodes = BTreeSet::new();
+    for (line, recipe) in &recipes[13..17] {
+        let start = recipe.rfind("\n4").expect("the last step is one of them") + 1;
+        opcodes.insert(recipe[start..start + 2].to_string());
+        for opcode in ["40", "41", "42"] {
+            let mut other = recipe.clone();
+            other.replace_range(start..start + 2, opcode);
+            assert_eq!(
+                explain_output(Way::Exact, other.as_bytes()),
+                format!("{line}\n").as_bytes(),
+                "an infinite end is one whatever the step: {opcode}"
+            );
+        }
+    }
+    assert_eq!(opcodes.len(), 3, "{opcodes:?}");
+    let page = read("man/explain.1");
+    let rules = read("docs/RULES.md");
+    let formats = read("docs/FORMATS.md");
+    for (codes, number, operand) in [
+        ("0e, 0f", 20, "A"),
+        ("10, 11", 20, "B"),
+        ("12, 13", 21, "A"),
+    ] {
+        let row = format!("| {codes} | {number} | 40, 41, 42 | {operand} |");
+        assert_eq!(rules.matches(&row).count(), 1, "docs/RULES.md: {row}");
+        let row = format!("\n| {codes} | add, subtract, multiply: ");
+        assert_eq!(formats.matches(&row).count(), 1, "docs/FORMATS.md: {row}");
+        for code in codes.split(", ") {
+            let row = format!("\n{code}\t{number}\t{operand}\tadd, subtract, multiply: ");
+            assert_eq!(page.matches(&row).count(), 1, "man/explain.1: {row}");
+        }
+    }
+    for (name, words) in [
+        ("docs/FORMATS.md", "40 to 42 of an infinite number |"),
+        ("docs/FORMATS.md", "or ldexp, 40, 41 or 42 overflows |"),
+        ("docs/FORMATS.md", "for the codes 01, 10 and\n11."),
+        ("docs/RULES.md", "| `refusal.20` | 40, 41, 42 |"),
+        ("docs/RULES.md", "| `refusal.21` | 40, 41, 42 |"),
+        ("man/sheet.1", "40, 41 and 42 are refused with 20"),
+        ("man/run.1", "are refused with 20 where A or B is infinite"),
+        (
+            "include/estrenwind.h",
+            "add, subtract or multiply of an infinite number */",
+        ),
+        (
+            "include/estrenwind.h",
+            "ldexp, add, subtract or multiply out of range */",
+        ),
+        (
+            "include/estrenwind.h",
+            "EW_REASON_B_LOW_INFINITE and EW_REASON_B_HIGH_INFINITE it is B.",
+        ),
+    ] {
+        assert_eq!(read(name).matches(words).count(), 1, "{name}: {words}");
+    }
 }
 
 /// Step 24 shares fmod's refusal and its reasons 01 to 03: it is explained by the same line in the place of fmod,
