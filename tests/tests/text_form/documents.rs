@@ -35,7 +35,7 @@ fn operations() -> BTreeSet<String> {
 #[test]
 fn every_operation_is_in_the_documents() {
     let operations = operations();
-    assert_eq!(operations.len(), 19, "{operations:?}");
+    assert_eq!(operations.len(), 22, "{operations:?}");
     let formats = read("docs/FORMATS.md");
     let section = between(&formats, "### Text form\n", "## Sheet\n");
     let page = read("man/estrenwind.1");

@@ -57,9 +57,12 @@ fn examples() {
         "divisor_through_zero",
         "index_clamp",
         "ldexp_out_of_range",
+        "light_without_end",
         "texel_lookup",
         "texture_index",
+        "texture_scale",
         "turned_down",
+        "two_lights",
         "two_zeros",
         "whole_too_big",
     ];
@@ -137,6 +140,55 @@ fn nearest_remainder() {
     compare("nearest_remainder", &text);
 }
 
+/// Sums and products of doubles: what is said where one is refused, for each reason, of a recipe and of a frame; and the table that shows which
+/// are whole.
+#[test]
+fn sums_and_products() {
+    let mut text = String::new();
+    for recipe in [
+        "u = input -inf .. 1\nx = add u 0.5\n",
+        "u = input 1 .. inf\nx = multiply u 3000\n",
+        "u = input 0 .. 1\nv = input -inf .. 0\nx = subtract u v\n",
+        "u = input 0 .. 1\nv = input -inf .. 1\nw = negate v\nx = multiply u w\n",
+        "u = input -1e308 .. 0\nv = input 0 .. 1e308\nx = subtract u v\n",
+        "key = input 0 .. 1e308\nfill = input 0 .. 1e308\nboth = add key fill\n",
+        // Neither operand alone is to blame.
+        "u = input 0 .. inf\nv = input -inf .. inf\nx = add u v\n",
+        "u = input 0 .. inf\nv = input 0 .. inf\nw = negate u\nx = add v w\n",
+        // One step as A and B.
+        "u = input -inf .. inf\nx = add u u\n",
+        "u = input 0 .. 1e200\nv = floor u\nx = multiply v v\n",
+        // Constants.
+        "x = add inf 1\n",
+        "x = multiply -1e308 1e308\n",
+    ] {
+        text += recipe;
+        text += &all_shown(&[&["check", "-"], &["explain", "-"]], recipe);
+    }
+    let folder = std::env::temp_dir().join(format!("estrenwind-sums-{}", std::process::id()));
+    fs::create_dir_all(&folder).unwrap();
+    let path = folder.join("lights.ew");
+    let recipe = "u = input -inf .. inf\nv = input -inf .. inf\nx = add u v\ny = subtract u v\nz = multiply x y\n";
+    fs::write(&path, recipe).unwrap();
+    let path = path.to_str().unwrap();
+    let frames = "0.1 0.2\n-inf inf\n1e308 -1e308\n1e200 1\n-0 -0\n";
+    let ran = all_shown(
+        &[
+            &["run", "--quiet", "--decimal", path],
+            &["run", "--trace", "2", "--decimal", path],
+            &["run", "--trace", "3", "--decimal", path],
+            &["run", "--trace", "5", "--decimal", path],
+        ],
+        frames,
+    );
+    fs::remove_dir_all(&folder).unwrap();
+    text += &ran.replace(path, "lights.ew");
+    let whole = "u = input -8.5 .. 8.5\nn = nearbyint u\nright = add n 1\nleft = subtract n 1\nrow = multiply n right\nnone = multiply n 0.5\n";
+    text += whole;
+    text += &all_shown(&[&["sheet", "-"], &["dis", "-"]], whole);
+    compare("sums_and_products", &text);
+}
+
 /// Each text, and what check says of it.
 #[test]
 fn slips_in_the_text_form() {
@@ -147,6 +199,9 @@ fn slips_in_the_text_form() {
         "y = floor u\nu = input 0 .. 1\n",
         "u = input 1 .. 0\n",
         "u = input 0 .. 1\nn = sum u 1\n",
+        "u = input 0 .. 1\nx = mul u 3000\ny = plus u 0.5\nz = sub u 0.5\nw = multiply u\n",
+        "n = input whole 0 .. 1\nm = add n 1\nk = n - 1\n",
+        "u = input 0 .. 1\nx = u * 3000\ny = 1e-3*u\nz = u+u\n",
         "u = input 0 .. 1\nx = ldexp u 0.5\n",
         "half = 0.5\n",
         "u = input 0 .. 1\nx = max(u, 0.5)\n",

@@ -34,7 +34,7 @@ fn dis_then_asm_is_the_same_recipe() {
         }
         folded += steps.len() - form.lines().count();
     }
-    assert_eq!(opcodes.len(), 21, "{opcodes:?}");
+    assert_eq!(opcodes.len(), 24, "{opcodes:?}");
     assert!(opcodes.values().all(|&count| count >= 200), "{opcodes:?}");
     assert!(folded > 500, "{folded} constants stand among operands");
 }

@@ -132,6 +132,24 @@ fn refusals_of_steps() {
         "to_double (32)",
     );
     told(
+        format!("020000{:032}\n4200{:034}\n", 0, 0),
+        "2:3",
+        "refused 15 (ff0f01): A is step 0, a whole number, and multiply needs a double there",
+        "to_double (32)",
+    );
+    told(
+        step("430000"),
+        "2:1",
+        "refused 12 (ff0c01): there is no opcode 43",
+        "table of steps",
+    );
+    told(
+        step("400001"),
+        "2:5",
+        "refused 14 (ff0e01): B is step 1",
+        "steps count from 0",
+    );
+    told(
         step("0300007ff8"),
         "2:7",
         "refused 16 (ff1001): P is a NaN",
