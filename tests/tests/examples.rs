@@ -109,6 +109,32 @@ fn the_nearest_turn() {
     assert_eq!(text(run_output(Way::Exact, input.as_bytes())), answers);
 }
 
+/// The variant of the texture that is 3000 wide whose coordinate has no end: it differs in its input alone, and there is no sheet.
+#[test]
+fn the_coordinate_without_an_end() {
+    let folders = folders_with("unbounded");
+    assert_eq!(folders.len(), 1);
+    let [recipe, unbounded, sheet, explanation] = [
+        "recipe",
+        "unbounded",
+        "unbounded_sheet",
+        "unbounded_explanation",
+    ]
+    .map(|name| read(&folders[0], name));
+    let steps = |text: &str| text.lines().skip(1).map(str::to_owned).collect::<Vec<_>>();
+    assert_eq!(steps(&recipe), steps(&unbounded));
+    assert_eq!(sheet, text(sheet_output(Way::Exact, unbounded.as_bytes())));
+    assert_eq!(
+        explanation,
+        text(explain_output(Way::Exact, unbounded.as_bytes()))
+    );
+    assert_eq!((sheet.trim(), explanation.trim()), ("ff1402", "02000f"));
+    let input = unbounded.lines().next().unwrap();
+    for shown in [input, sheet.trim(), explanation.trim()] {
+        shows(&folders[0], &[shown]);
+    }
+}
+
 /// The examples in C, built with warnings as errors; one prints the block that the README of the camera's heading shows.
 #[test]
 fn programs_in_c() {

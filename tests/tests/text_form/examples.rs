@@ -14,7 +14,12 @@ fn folders_with(name: &str) -> Vec<PathBuf> {
 
 #[test]
 fn text_forms_are_the_recipes() {
-    for (name, folders) in [("recipe", 12), ("mended", 5), ("nearest", 1)] {
+    for (name, folders) in [
+        ("recipe", 12),
+        ("mended", 5),
+        ("nearest", 1),
+        ("unbounded", 1),
+    ] {
         let found = folders_with(name);
         assert_eq!(found.len(), folders);
         for folder in found {
@@ -34,6 +39,24 @@ fn text_forms_are_the_recipes() {
             );
         }
     }
+}
+
+/// What the README of the texture that is 3000 wide shows of the command, for the variant that is refused.
+#[test]
+fn the_refused_variant_is_explained() {
+    let ran = estrenwind(&["explain", "examples/texture_scale/unbounded.ew"], "");
+    assert_eq!((ran.status, ran.errors.as_str()), (3, ""));
+    let shown: String = ran
+        .output
+        .lines()
+        .map(|line| format!("    {line}").trim_end().to_owned() + "\n")
+        .collect();
+    let readme = repository().join("examples/texture_scale/README.md");
+    assert!(shown.lines().count() > 6, "{shown}");
+    assert!(
+        fs::read_to_string(readme).unwrap().contains(&shown),
+        "{shown}"
+    );
 }
 
 /// dis keeps the names of a text form, and asm of it is the same recipe.
