@@ -14,6 +14,7 @@ CARGO_BINDINGS = --offline --manifest-path bindings/rust/Cargo.toml
 CARGO_COMMAND = --offline --release --manifest-path tools/estrenwind/Cargo.toml
 
 LIBRARY = build/libestrenwind.a
+CROSS_CHECK = build/libcross_check.a
 HEADER = build/estrenwind.h
 PROGRAMS = build/sheet build/run build/explain
 COMMAND = build/estrenwind
@@ -31,7 +32,7 @@ DESTINATION = $(call quoted,$(DESTDIR)$(PREFIX))
 help:  ## this list
 	@awk -F ':.*## ' '/^[a-z-]+:.*## / { printf "  make %-16s %s\n", $$1, $$2 }' Makefile
 
-build: $(LIBRARY) $(HEADER) $(PROGRAMS) $(COMMAND)  ## prove the crates and build the C library, its header, the programs and the command estrenwind, in build/
+build: $(LIBRARY) $(HEADER) $(PROGRAMS) $(COMMAND) $(CROSS_CHECK)  ## prove the crates and build the C library, its header, the programs and the command estrenwind, in build/
 
 # Every function starts a 64-byte line: where a linker put it would otherwise move its speed by a third.
 $(LIBRARY): $(SOURCES)
@@ -40,6 +41,14 @@ $(LIBRARY): $(SOURCES)
 	rt staticlib c_library
 	@mkdir -p build
 	objcopy --set-section-alignment '.text.*=64' target/staticlib/libc_library.a $@
+
+# Sums and products alone, in whole numbers and on floats, for tests and the benchmark. It is not installed.
+$(CROSS_CHECK): $(SOURCES)
+	@$(call need,rt,prove and compile the crates (the Rattle toolchain))
+	@$(call need,objcopy,align the archive's functions (binutils))
+	rt staticlib cross_check
+	@mkdir -p build
+	objcopy --set-section-alignment '.text.*=64' target/staticlib/libcross_check.a $@
 
 # The programs by one check, which proves what they share once.
 $(PROGRAMS) &: $(SOURCES)
@@ -109,7 +118,15 @@ build/peers: tests/c/peers.c $(LIBRARY) $(HEADER)
 test-peers: build/peers  ## hold fmin and fmax beside glibc's and the processor's own, on 120 million pairs
 	build/peers
 
-test-c: build build/halves test-peers  ## compile the header as C99 and C++11, check the marked cases, hold halves, fmin and fmax beside others', read the machine code, measure the stack
+# Sums, differences and products beside the processor's own.
+build/arithmetic: tests/c/arithmetic.c tests/c/cross_check.h $(CROSS_CHECK) $(HEADER)
+	@$(call need,$(CC),compile the C tests)
+	$(CC) -std=c99 $(CFLAGS) $(WARNINGS) -Ibuild tests/c/arithmetic.c $(CROSS_CHECK) -o $@
+
+test-arithmetic: build/arithmetic  ## hold sums, differences and products beside the processor's own, on 105 million pairs and under 16 of its settings
+	build/arithmetic
+
+test-c: build build/halves test-peers test-arithmetic  ## compile the header as C99 and C++11, check the marked cases, hold halves, fmin and fmax, sums and products beside others', read the machine code, measure the stack
 	@$(call need,$(CC),compile the C tests)
 	@$(call need,objdump,read the machine code (binutils))
 	$(CC) -std=c99 $(CFLAGS) $(WARNINGS) -Ibuild tests/c/compile.c $(LIBRARY) -lm -o build/compile-c
@@ -122,7 +139,7 @@ test-c: build build/halves test-peers  ## compile the header as C99 and C++11, c
 		echo "$(CXX) is missing: the C++ test is left out"; \
 	fi
 	build/halves
-	sh tests/c/machine_code.sh $(LIBRARY)
+	sh tests/c/machine_code.sh $(LIBRARY) $(CROSS_CHECK)
 	$(CC) -std=gnu11 $(CFLAGS) $(WARNINGS) -Ibuild tests/c/stack.c $(LIBRARY) -lpthread -o build/stack
 	build/stack
 
@@ -150,7 +167,8 @@ test-processors: build  ## the same answers on this processor and on two emulate
 	cargo build --quiet $(CARGO_TESTS) --bin recipe_cases
 	tests/target/release/recipe_cases calls >build/processors.d/calls
 	tests/target/release/recipe_cases input >build/processors.d/input
-	$(CC) -std=gnu99 $(CFLAGS) $(WARNINGS) -fno-builtin -static -Ibuild tests/c/processors.c $(LIBRARY) -lm -o build/processors
+	$(CC) -std=gnu99 $(CFLAGS) $(WARNINGS) -fno-builtin -static -Ibuild tests/c/processors.c $(LIBRARY) $(CROSS_CHECK) -lm \
+		-o build/processors
 	sh tests/c/processors.sh build
 
 zero-rules: build  ## W-202's rule for the two zeros beside the one before it, over recipes: where a zero's sign differs, with examples
@@ -209,5 +227,5 @@ fmt:  ## put Rattle and Rust sources in their layout
 clean:  ## remove everything that was built
 	rm -rf build target tests/target bindings/rust/target tools/estrenwind/target
 
-.PHONY: help build demo roundings quadrant install uninstall test test-c test-peers test-rust test-bindings test-command test-install test-processors \
-	zero-rules processors-deps faults-deps farm-deps test-endless test-exhaustive bench bench-deps fmt clean
+.PHONY: help build demo roundings quadrant install uninstall test test-c test-peers test-arithmetic test-rust test-bindings test-command test-install \
+	test-processors zero-rules processors-deps faults-deps farm-deps test-endless test-exhaustive bench bench-deps fmt clean
