@@ -2,19 +2,22 @@
 # Reads the machine code of the library's functions, whatever the compiler made of the source: none may touch a floating-point
 # register. None may divide, and none may call or jump to another, but the remainders (fmod, remainder, remquo), which have parts that they
 # share with each other and with recipes; what they call is read with them. frexp and ldexp bring a subnormal number to its leading one by one
-# count, without a loop. The library as a whole keeps no state and asks for nothing but what moves memory.
-# machine_code.sh LIBRARY
+# count, without a loop. The library as a whole, recipes' steps in it, works on no float, keeps no state and asks for nothing but what moves
+# memory. Of the archive for cross checks, sums, differences and products in whole numbers touch no floating-point register either and do not
+# divide; those on floats have the processor's instruction, which shows that it would be seen.
+# machine_code.sh LIBRARY CROSS_CHECK
 set -eu
-library=$1
+library=$1 cross_check=$2
 functions="floor ceil trunc round nearbyint lround fabs negate classify modf frexp ldexp fmod remainder remquo nextafter fmin fmax"
 floating='%[xyz]mm|[[:space:]]f[a-z]+[[:space:]]+%?st'
 divides='[[:space:]]i?div[a-z]*[[:space:]]'
 # A call, or a jump out of the function, has a relocation of the kind PLT32.
 calls='[[:space:]]call[a-z]*[[:space:]]|R_X86_64_PLT32'
 count='[[:space:]](bsr|lzcnt)[a-z]*[[:space:]]'
-# code_of FUNCTION: its instructions and relocations.
+# code_of FUNCTION: its instructions and relocations, in the archive that is being read.
+archive=$library
 code_of() {
-    objdump -dr --no-show-raw-insn --disassemble="$1" "$library" | sed -n "/<$1>:/,\$p"
+    objdump -dr --no-show-raw-insn --disassemble="$1" "$archive" | sed -n "/<$1>:/,\$p"
 }
 # code_from FUNCTION: the same, and of all that it calls. The relocation of a function that the library keeps to itself names its section.
 code_from() {
@@ -26,6 +29,12 @@ code_from() {
         echo "$part"
         names=$(printf '%s\n%s\n' "$names" "$(echo "$part" | sed -n 's/.*R_X86_64_PLT32[[:space:]]*\(\.text\.\)*\(.*\)-0x.*/\2/p')" | awk 'NF && !seen[$0]++')
     done
+}
+# The instructions that work on floats: those of the old floating-point unit, and on its later registers all but moves, whole numbers and bits.
+on_floats() {
+    awk '$1 !~ /^[0-9a-f]+:$/ || $2 ~ /^R_/ { next }
+        $2 ~ /^f/ { print }
+        /%[xyz]mm/ && $2 !~ /^(mov[a-z0-9]*|p[a-z0-9]*|(and|andn|or|xor|shuf|unpck[lh])p[sd])$/ { print }'
 }
 # How many of a function's instructions can be reached again from themselves.
 in_loops() {
@@ -88,6 +97,28 @@ for symbol in $symbols; do
     esac
     checked=$((checked + 1))
 done
+works_on=$(objdump -d --no-show-raw-insn "$library" | on_floats)
+if [ -n "$works_on" ]; then
+    echo "$works_on" >&2
+    echo "$library: the lines above work on floats" >&2
+    exit 1
+fi
+archive=$cross_check
+for name in sum:addsd difference:subsd product:mulsd; do
+    symbol=ew_check_${name%:*} on_float=ew_check_float_${name%:*} instruction=${name#*:}
+    if ! code=$(code_from "$symbol") || ! float_code=$(code_from "$on_float"); then
+        echo "$symbol or $on_float, or what it calls, is not in $cross_check" >&2
+        exit 1
+    fi
+    if { echo "$code" | on_floats && echo "$code" | grep -E "$floating|$divides"; } | grep .; then
+        echo "$symbol: the lines above should not be there" >&2
+        exit 1
+    fi
+    if ! echo "$float_code" | on_floats | grep -q "[[:space:]]$instruction[[:space:]]"; then
+        echo "$on_float has no $instruction, or it is not seen" >&2
+        exit 1
+    fi
+done
 writable=$(objdump -h "$library" | awk '$2 ~ /^\.t?(data|bss)/ && $2 !~ /^\.data\.rel\.ro/ && $3 !~ /^0+$/ { print $2 }')
 if [ -n "$writable" ]; then
     echo "$library keeps state: $writable" >&2
@@ -98,4 +129,4 @@ if [ -n "$outside" ]; then
     echo "$library asks for $outside" >&2
     exit 1
 fi
-echo "$checked functions touch no floating-point register; but for fmod, remainder and remquo none divides or calls another; one count and no loop in frexp and ldexp; no state"
+echo "$checked functions touch no floating-point register; but for fmod, remainder and remquo none divides or calls another; one count and no loop in frexp and ldexp; no float in recipes, and none in sums and products but those on floats; no state"
