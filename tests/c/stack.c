@@ -33,6 +33,7 @@ static void write_recipe(void)
         {0x10, 0, 0}, {0x11, 1, 0}, {0x12, 2, 0}, {0x13, 3, 0}, {0x14, 4, 0}, {0x15, 5, 0}, {0x16, 6, 0}, {0x17, 7, 0}, {0x18, 8, 0},
         {0x20, 9, 10}, {0x21, 11, 12}, {0x22, 13, CONSTANT}, {0x23, 14, WHOLE_CONSTANT}, {0x24, 12, CONSTANT},
         {0x30, WHOLE_INPUT, WHOLE_CONSTANT}, {0x31, WHOLE_INPUT, WHOLE_CONSTANT}, {0x32, WHOLE_INPUT, 0},
+        {0x40, 0, 1}, {0x41, 2, CONSTANT}, {0x42, 3, 4},
     };
     int i;
     for (i = 0; i < WHOLE_INPUT; i++) {
@@ -100,9 +101,16 @@ static long used_by(void *(*body)(void *))
     return used;
 }
 
+/* Last steps that are turned down: the remainder of an input by itself, whose range holds zero; 1e300, which the step before is, by itself. */
+static const struct {
+    const char *step;
+    uint64_t reason;
+} last_steps[] = {{"220000", EW_REASON_DIVISOR_HOLDS_ZERO}, {"427e7e", EW_REASON_ANSWER_LOW_OVERFLOWS}};
+
 int main(void)
 {
-    long bytes, lines_bytes, sheet_bytes, explain_bytes, last_bytes;
+    long bytes, lines_bytes, sheet_bytes, explain_bytes;
+    size_t i;
     write_recipe();
     sprintf(lines, "%s\n\n", frame);
     /* Once before they count: at its first call the dynamic linker binds memcpy, and takes some 3 KiB of the caller's stack for that. */
@@ -123,15 +131,19 @@ int main(void)
     lines_bytes = used_by(run_lines);
     sheet_bytes = used_by(show);
     explain_bytes = used_by(explain);
-    /* And where a reason is told of the last step: the remainder of an input by itself, whose range holds zero. */
-    sprintf(text + (EW_MOST_STEPS - 1) * EW_RECIPE_LINE, "220000%032x\n", 0u);
-    last_bytes = used_by(explain);
-    if (explained.reason != EW_REASON_DIVISOR_HOLDS_ZERO || explained.step != EW_MOST_STEPS - 1) {
-        printf("the last step was not explained\n");
-        return 1;
+    /* And where a reason is told of the last step. */
+    for (i = 0; i < sizeof last_steps / sizeof last_steps[0]; i++) {
+        long last_bytes;
+        sprintf(text + (EW_MOST_STEPS - 2) * EW_RECIPE_LINE, "030000%016llx%016x\n%s%032x\n", (unsigned long long)ew_bits_f64(1e300), 0u,
+                last_steps[i].step, 0u);
+        last_bytes = used_by(explain);
+        if (explained.reason != last_steps[i].reason || explained.step != EW_MOST_STEPS - 1) {
+            printf("the last step was not explained\n");
+            return 1;
+        }
+        if (last_bytes > explain_bytes)
+            explain_bytes = last_bytes;
     }
-    if (last_bytes > explain_bytes)
-        explain_bytes = last_bytes;
     printf("on %d steps ew_run used %ld bytes of stack, ew_run_lines %ld, ew_sheet %ld and ew_explain %ld\n", EW_MOST_STEPS, bytes, lines_bytes,
            sheet_bytes, explain_bytes);
     if (bytes > LIMIT || lines_bytes > LIMIT || sheet_bytes > LIMIT || explain_bytes > LIMIT) {
