@@ -198,11 +198,11 @@ test-exhaustive: build build/halves  ## compare them on every f32 there is, 2^32
 	cargo run $(CARGO_TESTS) --bin exhaustive
 	build/halves all
 
-bench: build  ## time single calls beside glibc, musl and newlib, halves beside gcc, F16C and Imath, check the targets, and time runs, sheets, the program run beside plain ones, and the command beside the program
+bench: build  ## time single calls beside glibc, musl and newlib, halves beside gcc, F16C and Imath, sums and products beside the processor's own, check the targets, and time runs, sheets, the program run beside plain ones, and the command beside the program
 	@$(call need,$(CC),compile the benchmark)
 	CC=$(call quoted,$(CC)) sh bench/references.sh build/bench
-	$(CC) -std=gnu99 -O2 -Wall -Wextra -falign-functions=64 -falign-loops=64 -Ibuild -Ibuild/bench bench/bench.c \
-		build/bench/musl.o build/bench/newlib.o build/bench/imath.o $(LIBRARY) $$(cat build/bench/libraries) -lm -o build/bench/bench
+	$(CC) -std=gnu99 -O2 -Wall -Wextra -falign-functions=64 -falign-loops=64 -Ibuild -Ibuild/bench bench/bench.c bench/host.c \
+		build/bench/musl.o build/bench/newlib.o build/bench/imath.o $(LIBRARY) $(CROSS_CHECK) $$(cat build/bench/libraries) -lm -o build/bench/bench
 	@$(call need,cargo,build the plain interpreter)
 	cargo build --offline --quiet --profile speed --manifest-path tests/Cargo.toml --bin recipe_speed --bin reference_run --bin program_speed
 	@echo

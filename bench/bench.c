@@ -1,6 +1,6 @@
 /*
- * Times single calls of the library's functions beside glibc's, musl's and newlib's, and of those of halves beside floats and others'
- * conversions (halves.h), in one binary and one run.
+ * Times single calls of the library's functions beside glibc's, musl's and newlib's, of those of halves beside floats and others'
+ * conversions (halves.h), and of sums and products beside the processor's own (arithmetic.h), in one binary and one run.
  *
  * Every function is called through a pointer from a loop over an array that stays in the cache; the loop takes the operands
  * from an array of the function's own type and folds the answers' bits together, so that no answer is thrown away and all pay
@@ -50,7 +50,8 @@ typedef struct {
     operands32 floats, wide;
 } data_set;
 
-enum { TEXTURE, MIXED, SUBNORMAL, SPECIAL, FAR, TO_SUBNORMAL, TO_NORMAL, TOP_HEAVY, SMALLER, HALF_NORMAL, HALF_SUBNORMAL, HALF_ANY, SETS };
+enum { TEXTURE, MIXED, SUBNORMAL, SPECIAL, FAR, TO_SUBNORMAL, TO_NORMAL, TOP_HEAVY, SMALLER, ANY_ORDER, FACTOR, LOW, HALF_NORMAL, HALF_SUBNORMAL, HALF_ANY,
+       SETS };
 
 static data_set sets[SETS] = {
     {.name = "texture-like: x in -4096 to 4096, with fractions; y in 0.5 to 64; n in -16 to 16"},
@@ -62,6 +63,9 @@ static data_set sets[SETS] = {
     {.name = "subnormal x, of every size alike; n to a normal number"},
     {.name = "subnormal x and y with random fractions: most have their leading one near the top"},
     {.name = "|x| < |y|: y in 0.5 to 64, x in -y to y"},
+    {.name = "mixed magnitudes of any sign in no order, as above, but no sum or product leaves the normal numbers"},
+    {.name = "subnormal x, of every size alike; y to a normal product"},
+    {.name = "normal x and y; subnormal product, of every size alike"},
     {.name = "normal halves; floats that become such"},
     {.name = "subnormal halves; floats that become such"},
     {.name = "any 16 bits; any 32 bits"},
@@ -78,6 +82,9 @@ static uint64_t random_bits(void)
 
 /* From 0 to below 1. */
 static double random_part(void) { return (double)(random_bits() >> 11) * 0x1p-53; }
+
+/* A double's pattern from an exponent field and a random sign and fraction. */
+static uint64_t double_of(uint64_t e) { return (random_bits() & 0x800fffffffffffffu) | e << 52; }
 
 /* Both widths' patterns from an exponent field and random signs and fractions. */
 static void put(operands64 *f64, operands32 *f32, int i, uint64_t e64, uint32_t e32)
@@ -135,6 +142,19 @@ static void put_scale(data_set *set, int i, int place64, int place32)
 
 static void put_scale_to_subnormal(data_set *set, int i) { put_scale(set, i, (int)(random_bits() % 52), (int)(random_bits() % 23)); }
 
+/* As put_mixed has them, but between the square roots of the least and of the largest number. */
+static uint64_t random_mixed(void)
+{
+    switch (random_bits() % 4) {
+    case 0: return double_of(512 + random_bits() % 503);
+    case 1: return double_of(1085 + random_bits() % 450);
+    default: return double_of(1015 + random_bits() % 70);
+    }
+}
+
+/* A double of about 2^n. */
+static uint64_t double_about(int n) { return double_of((uint64_t)(n + 1023)); }
+
 /* Patterns with this exponent field and random signs and fractions. */
 static uint16_t half_of(uint64_t e) { return (uint16_t)((random_bits() & 0x83ff) | e << 10); }
 static uint32_t float_of(uint64_t e) { return (uint32_t)((random_bits() & 0x807fffff) | e << 23); }
@@ -186,6 +206,16 @@ static void fill(void)
         put(&set->y64, &set->y32, i, 0, 0);
         set = &sets[SMALLER];
         put_between(&set->x64, &set->x32, i, -set->y64.values[i], set->y64.values[i]);
+        set = &sets[ANY_ORDER];
+        set->x64.bits[i] = random_mixed();
+        set->y64.bits[i] = random_mixed();
+        /* Products from 2^-1020 to 2^-120. */
+        set = &sets[FACTOR];
+        put_subnormal(&set->x64, &set->x32, i);
+        set->y64.bits[i] = double_about(-1020 + (int)(random_bits() % 900) - ilogb(set->x64.values[i]));
+        set = &sets[LOW];
+        set->x64.bits[i] = double_about(-60 - (int)(random_bits() % 900));
+        set->y64.bits[i] = double_about((int)(random_bits() % 51) - 1074 - ilogb(set->x64.values[i]));
     }
     /* Floats from 2^-14 to 2^15, and from 2^-24 to 2^-14. */
     for (i = 0; i < COUNT; i++) {
@@ -367,6 +397,10 @@ FUNCTIONS
 
 enum { OURS, HEADERS, GLIBC, MUSL, NEWLIB, COLUMNS };
 
+/* Rows stand in tables: functions of doubles, of floats and of halves, and sums and products, which are doubles too. */
+enum { F64 = 64, F32 = 32, F16 = 16, ARITHMETIC = 0 };
+
+#include "arithmetic.h"
 #include "halves.h"
 
 typedef struct {
@@ -380,7 +414,7 @@ typedef struct {
    glibc's where exponents lie far apart, and musl's time at least `lead` times ours. 0 asks nothing. */
 static struct {
     const char *name;
-    int width;
+    int table;
     double limit, lead, mixed, far;
     measure measures[COLUMNS];
 } rows[] = {
@@ -404,6 +438,7 @@ static struct {
 #define CHOICE(name, limit) BOTH(name, choice, limit, 0, 0, 0)
     FUNCTIONS
     HALVES
+    OPERATIONS
 };
 
 enum { ROWS = sizeof rows / sizeof rows[0] };
@@ -435,12 +470,24 @@ static const struct {
 
 enum { CASES = sizeof cases / sizeof cases[0] };
 
+/* Sums, differences and products take numbers of two sorts, and those of arithmetic_cases what stands there. */
+static int takes_arithmetic(int row, int set)
+{
+    int s;
+    for (s = 0; s < ARITHMETIC_CASES; s++)
+        if (arithmetic_cases[s].set == set && strcmp(arithmetic_cases[s].name, rows[row].name) == 0)
+            return 1;
+    return set == TEXTURE || set == ANY_ORDER;
+}
+
 /* Every function takes the sets up to SPECIAL, a remainder FAR, those of `cases` what stands there; the last three are for halves. */
 static int takes(int row, int set)
 {
     int s;
-    if (rows[row].width == 16 || set >= HALF_NORMAL)
-        return rows[row].width == 16 && set >= HALF_NORMAL;
+    if (rows[row].table == ARITHMETIC)
+        return takes_arithmetic(row, set);
+    if (rows[row].table == F16 || set >= HALF_NORMAL)
+        return rows[row].table == F16 && set >= HALF_NORMAL;
     if (set <= SPECIAL || (set == FAR && rows[row].far != 0))
         return 1;
     for (s = 0; s < CASES; s++)
@@ -577,25 +624,35 @@ static void print_ratio(double ratio)
         printf(" %7.2f", ratio);
 }
 
-static void print_set(int set, int width)
+static void print_heading(int table, const char *set)
 {
-    int r, c;
-    printf("\nf%d, %s\n", width, sets[set].name);
-    if (width == 16)
-        printf("%-10s  %13s  %13s  %13s  %13s  %13s %7s %7s %7s %7s\n", "ns a call", "Estrenwind", "same in f32", "gcc _Float16", "F16C",
-               "Imath", "/f32", "/gcc", "/F16C", "/Imath");
+    if (table == ARITHMETIC)
+        printf("\nsums and products, %s\n%-10s  %13s  %13s  %13s %7s %7s\n", set, "ns a call", "Estrenwind", "on floats", "processor", "/floats",
+               "/proc.");
+    else if (table == F16)
+        printf("\nf16, %s\n%-10s  %13s  %13s  %13s  %13s  %13s %7s %7s %7s %7s\n", set, "ns a call", "Estrenwind", "same in f32", "gcc _Float16",
+               "F16C", "Imath", "/f32", "/gcc", "/F16C", "/Imath");
     else
-        printf("%-10s  %13s  %13s  %13s  %13s  %13s %7s %7s %7s\n", "ns a call", "Estrenwind", "header form", "glibc", "musl",
+        printf("\nf%d, %s\n%-10s  %13s  %13s  %13s  %13s  %13s %7s %7s %7s\n", table, set, "ns a call", "Estrenwind", "header form", "glibc", "musl",
                "newlib", "/glibc", "/musl", "/newlib");
+}
+
+/* The rows of a table that take a set, if there are any. */
+static void print_set(int set, int table)
+{
+    const int columns = table == ARITHMETIC ? ARITHMETIC_COLUMNS : COLUMNS;
+    int r, c, printed = 0;
     for (r = 0; r < ROWS; r++) {
         figures f;
-        if (rows[r].width != width || !takes(r, set))
+        if (rows[r].table != table || !takes(r, set))
             continue;
+        if (printed++ == 0)
+            print_heading(table, sets[set].name);
         f = figures_of(r, set);
         printf("%-10s", rows[r].name);
-        for (c = 0; c < COLUMNS; c++)
+        for (c = 0; c < columns; c++)
             print_pair(f.medians[c], f.least[c]);
-        for (c = width == 16 ? FLOATS : GLIBC; c < COLUMNS; c++)
+        for (c = table == F64 || table == F32 ? GLIBC : HEADERS; c < columns; c++)
             print_ratio(f.medians[OURS] / f.medians[c]);
         putchar('\n');
     }
@@ -633,9 +690,9 @@ static int print_targets(void)
     for (r = 0; r < ROWS; r++) {
         const double musl = figures_of(r, TEXTURE).medians[MUSL];
         int missed = 0;
-        if (rows[r].width == 16)
+        if (rows[r].table != F64 && rows[r].table != F32)
             continue;
-        printf("f%d %-10s", rows[r].width, rows[r].name);
+        printf("f%d %-10s", rows[r].table, rows[r].name);
         missed |= hold_ratio(r, TEXTURE, GLIBC, rows[r].limit);
         missed |= hold(rows[r].lead == 0 ? NAN : 1 / ratio(r, TEXTURE, MUSL), ">=", rows[r].lead);
         missed |= hold_ratio(r, MIXED, GLIBC, rows[r].mixed);
@@ -659,9 +716,9 @@ static int print_case_targets(void)
         for (r = 0; r < ROWS; r++) {
             const int set = cases[s].set;
             int missed;
-            if (rows[r].width == 16 || strcmp(rows[r].name, cases[s].name) != 0)
+            if ((rows[r].table != F64 && rows[r].table != F32) || strcmp(rows[r].name, cases[s].name) != 0)
                 continue;
-            printf("f%d %-9s %-18s", rows[r].width, rows[r].name, cases[s].what);
+            printf("f%d %-9s %-18s", rows[r].table, rows[r].name, cases[s].what);
             missed = hold_ratio(r, set, GLIBC, cases[s].limit);
             missed |= hold(cases[s].normal == 0 ? NAN : figures_of(r, set).medians[OURS] / figures_of(r, TEXTURE).medians[OURS], "<=",
                            cases[s].normal);
@@ -688,7 +745,7 @@ static int print_half_targets(void)
     for (r = 0; r < ROWS; r++) {
         const double subnormal = figures_of(r, HALF_SUBNORMAL).medians[OURS] / figures_of(r, HALF_NORMAL).medians[OURS];
         int missed = 0;
-        if (rows[r].width != 16)
+        if (rows[r].table != F16)
             continue;
         printf("f16 %-10s", rows[r].name);
         missed |= hold(strcmp(rows[r].name, "import") == 0 ? subnormal : NAN, "<=", SUBNORMAL_IMPORT);
@@ -697,6 +754,34 @@ static int print_half_targets(void)
         printf("  %s\n", missed ? "MISSED" : "target met");
         missed_rows += missed;
     }
+    return missed_rows;
+}
+
+static int print_arithmetic_targets(void)
+{
+    int r, s, missed_rows = 0;
+    printf("\n%-28s  %14s  %14s\n", "", "texture/proc.", "mixed/proc.");
+    for (r = 0; r < ROWS; r++) {
+        int missed = 0;
+        if (rows[r].table != ARITHMETIC)
+            continue;
+        printf("%-28s", rows[r].name);
+        missed |= hold_ratio(r, TEXTURE, HOST, BESIDE_HOST);
+        missed |= hold_ratio(r, ANY_ORDER, HOST, BESIDE_HOST);
+        printf("  %s\n", missed ? "MISSED" : "target met");
+        missed_rows += missed;
+    }
+    printf("\n%-28s  %14s\n", "", "/proc.");
+    for (s = 0; s < ARITHMETIC_CASES; s++)
+        for (r = 0; r < ROWS; r++) {
+            int missed;
+            if (rows[r].table != ARITHMETIC || strcmp(rows[r].name, arithmetic_cases[s].name) != 0)
+                continue;
+            printf("%-10s %-17s", rows[r].name, arithmetic_cases[s].what);
+            missed = hold_ratio(r, arithmetic_cases[s].set, HOST, arithmetic_cases[s].limit);
+            printf("  %s\n", missed ? "MISSED" : "target met");
+            missed_rows += missed;
+        }
     return missed_rows;
 }
 
@@ -717,7 +802,7 @@ int main(void)
     int i, missed;
     fill();
     for (i = 0; i < ROWS; i++)
-        if (rows[i].width == 16 && !has_f16c())
+        if (rows[i].table == F16 && !has_f16c())
             rows[i].measures[F16C].function = NULL;
     for (i = 0; i < 2000; i++)
         time_of_identity();
@@ -725,18 +810,20 @@ int main(void)
     while (repeat() && now() < end)
         ;
     print_machine();
-    for (i = 0; i < HALF_NORMAL; i++) {
-        print_set(i, 64);
-        print_set(i, 32);
+    for (i = 0; i < SETS; i++) {
+        print_set(i, F64);
+        print_set(i, F32);
+        print_set(i, F16);
     }
-    for (i = HALF_NORMAL; i < SETS; i++)
-        print_set(i, 16);
+    for (i = 0; i < SETS; i++)
+        print_set(i, ARITHMETIC);
     missed = print_targets();
     missed += print_case_targets();
     missed += print_half_targets();
+    missed += print_arithmetic_targets();
     if (too_few())
         printf("\nThe machine was too busy: some figures stand on fewer than %d quiet repetitions. Run again when it is quiet.\n",
                ENOUGH);
-    printf("\n%d of %d rows meet their targets\n", ROWS + 2 * CASES - missed, ROWS + 2 * CASES);
+    printf("\n%d of %d rows meet their targets\n", ROWS + 2 * CASES + ARITHMETIC_CASES - missed, ROWS + 2 * CASES + ARITHMETIC_CASES);
     return 0;
 }

@@ -66,11 +66,11 @@ enum { FLOATS = HEADERS, GCC = GLIBC, F16C = MUSL, IMATH = NEWLIB };
 static const double SUBNORMAL_IMPORT = 4.0, BESIDE_GCC = 1.0, BESIDE_FLOATS = 1.05;
 
 #define HALF_ROUNDING(name)                                                      \
-    {#name, 16, 0, 0, 0, 0,                                                      \
+    {#name, F16, 0, 0, 0, 0,                                                     \
      {[OURS] = {.run = word_patterns16, .function = (anything *)ew_##name##_f16}, \
       [FLOATS] = {.run = word_floats16, .function = (anything *)ew_##name##_f32}}},
 #define CONVERSION(name, symbol, gcc)                                     \
-    {#name, 16, 0, 0, 0, 0,                                               \
+    {#name, F16, 0, 0, 0, 0,                                              \
      {[OURS] = {.run = name##_patterns, .function = (anything *)symbol},   \
       [GCC] = {.run = name##_halves, .function = gcc},                     \
       [F16C] = {.run = name##_others, .function = (anything *)f16c_##name}, \
