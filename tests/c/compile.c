@@ -723,6 +723,121 @@ static void check_explain(void)
     check("explain reason", 3, e.reason, EW_REASON_NONE);
 }
 
+/* Steps 40 to 42 of two constants: the word, which both ends of the range are too, and the mark; or the refusal. */
+static const struct {
+    const char *opcode;
+    uint64_t x, y, expected;
+    const char *mark;
+    uint64_t refusal;
+} sums[] = {
+    {"40", 0x3fb999999999999a, 0x3fc999999999999a, 0x3fd3333333333334, "00", EW_ACCEPTED}, /* 0.1 + 0.2 */
+    {"40", 0x3ff0000000000000, 0x3ca0000000000000, 0x3ff0000000000000, "00", EW_ACCEPTED}, /* a half of the last place: down to even */
+    {"40", 0x3ff0000000000001, 0x3ca0000000000000, 0x3ff0000000000002, "00", EW_ACCEPTED}, /* up to even */
+    {"40", 0x3ff0000000000000, 0x3ca0000000000001, 0x3ff0000000000001, "00", EW_ACCEPTED}, /* more than a half */
+    {"40", 0x3ff0000000000000, 0xbff0000000000000, 0x0000000000000000, "01", EW_ACCEPTED}, /* 1 + -1 = +0, rounded down too */
+    {"40", 0x8000000000000000, 0x8000000000000000, 0x8000000000000000, "01", EW_ACCEPTED},
+    {"40", 0x0000000000000000, 0x8000000000000000, 0x0000000000000000, "01", EW_ACCEPTED},
+    {"40", 0x0000000000000001, 0x0000000000000001, 0x0000000000000002, "00", EW_ACCEPTED}, /* subnormal operands and answer */
+    {"40", 0x0010000000000001, 0x8010000000000000, 0x0000000000000001, "00", EW_ACCEPTED}, /* subnormal answer */
+    {"40", 0x7fefffffffffffff, 0x7c8fffffffffffff, 0x7fefffffffffffff, "01", EW_ACCEPTED}, /* less than a half above the largest */
+    {"40", 0x7fefffffffffffff, 0x7c90000000000000, 0, "", EW_REFUSED_OVERFLOW},            /* a half */
+    {"40", 0x7ff0000000000000, 0xfff0000000000000, 0, "", EW_REFUSED_REMAINDER},           /* infinite operands */
+    {"41", 0x3fd3333333333333, 0x3fb999999999999a, 0x3fc9999999999999, "00", EW_ACCEPTED}, /* 0.3 - 0.1 */
+    {"41", 0x3ff0000000000000, 0x3c90000000000000, 0x3ff0000000000000, "00", EW_ACCEPTED}, /* a half below a power of two: up to even */
+    {"41", 0x3ff0000000000000, 0x3c90000000000001, 0x3fefffffffffffff, "00", EW_ACCEPTED},
+    {"41", 0x3ff0000000000000, 0x3ff0000000000000, 0x0000000000000000, "01", EW_ACCEPTED},
+    {"41", 0x8000000000000000, 0x0000000000000000, 0x8000000000000000, "01", EW_ACCEPTED},
+    {"41", 0x0010000000000000, 0x0010000000000001, 0x8000000000000001, "00", EW_ACCEPTED},
+    {"41", 0xffefffffffffffff, 0x7fefffffffffffff, 0, "", EW_REFUSED_OVERFLOW},
+    {"41", 0x3ff0000000000000, 0xfff0000000000000, 0, "", EW_REFUSED_REMAINDER},
+    {"42", 0x3fb999999999999a, 0x4008000000000000, 0x3fd3333333333334, "00", EW_ACCEPTED}, /* 0.1 * 3 */
+    {"42", 0x3ff0000000000001, 0x4008000000000000, 0x4008000000000002, "00", EW_ACCEPTED}, /* a half: up to even */
+    {"42", 0x3ff0000000000003, 0x4008000000000000, 0x4008000000000004, "00", EW_ACCEPTED}, /* down to even */
+    {"42", 0x0010000000000000, 0x3fe0000000000000, 0x0008000000000000, "00", EW_ACCEPTED}, /* subnormal answer */
+    {"42", 0x8000000000000001, 0x3fe0000000000000, 0x8000000000000000, "00", EW_ACCEPTED}, /* a half of the least: to even, -0 */
+    {"42", 0x0000000000000001, 0x3fe8000000000000, 0x0000000000000001, "00", EW_ACCEPTED}, /* three quarters of it */
+    {"42", 0x000fffffffffffff, 0x4000000000000000, 0x001ffffffffffffe, "00", EW_ACCEPTED}, /* subnormal operand, normal answer */
+    {"42", 0x0000000000000000, 0xbff0000000000000, 0x8000000000000000, "01", EW_ACCEPTED},
+    {"42", 0x8000000000000000, 0xbff0000000000000, 0x0000000000000000, "01", EW_ACCEPTED},
+    {"42", 0x7fefffffffffffff, 0x3ff0000000000001, 0, "", EW_REFUSED_OVERFLOW},
+    {"42", 0x7ff0000000000000, 0x0000000000000000, 0, "", EW_REFUSED_REMAINDER},
+};
+
+static void check_sums(void)
+{
+    char text[3 * EW_RECIPE_LINE + 1], line[EW_SHEET_LINE + 1];
+    const uint8_t *const recipe_of_two = (const uint8_t *)text;
+    uint8_t sheet[3 * EW_SHEET_LINE];
+    uint64_t words[3];
+    size_t i;
+    for (i = 0; i < LENGTH(sums); i++) {
+        const uint64_t refusal = sums[i].refusal, place = refusal == EW_ACCEPTED ? 0 : 2;
+        ew_run_answer r;
+        ew_sheet_answer s;
+        snprintf(text, sizeof text, "030000%016llx%016d\n030000%016llx%016d\n%s0001%032d\n", (unsigned long long)sums[i].x, 0,
+                 (unsigned long long)sums[i].y, 0, sums[i].opcode, 0);
+        r = ew_run(recipe_of_two, 3 * EW_RECIPE_LINE, NULL, 0, words, 3);
+        check("sum's refusal", i, r.refusal, refusal);
+        check("sum's place", i, r.place, place);
+        check("sum", i, r.word, sums[i].expected);
+        s = ew_sheet(recipe_of_two, 3 * EW_RECIPE_LINE, sheet, sizeof sheet);
+        check("sum's refusal by the sheet", i, s.refusal, refusal);
+        check("sum's place by the sheet", i, s.place, place);
+        snprintf(line, sizeof line, "0201%s%016llx%016llx\n", sums[i].mark, (unsigned long long)sums[i].expected, (unsigned long long)sums[i].expected);
+        if (refusal == EW_ACCEPTED)
+            check("sum's range", i, memcmp(sheet + 2 * EW_SHEET_LINE, line, EW_SHEET_LINE) == 0, 1);
+    }
+}
+
+/* The same steps of two inputs from a low to a high end: the range, or why there is none and of which operand. */
+static const struct {
+    const char *opcode;
+    uint64_t a[2], b[2], range[2], reason, operand;
+} sum_ranges[] = {
+    {"40", {0x3ff0000000000000, 0x4000000000000000}, {0x4024000000000000, 0x403e000000000000},
+     {0x4026000000000000, 0x4040000000000000}, EW_REASON_NONE, 0}, /* 1 to 2, 10 to 30: 11 to 32 */
+    {"41", {0x3ff0000000000000, 0x4000000000000000}, {0x4024000000000000, 0x403e000000000000},
+     {0xc03d000000000000, 0xc020000000000000}, EW_REASON_NONE, 0}, /* -29 to -8 */
+    {"42", {0xc000000000000000, 0x4008000000000000}, {0xc014000000000000, 0x401c000000000000},
+     {0xc02e000000000000, 0x4035000000000000}, EW_REASON_NONE, 0}, /* -2 to 3, -5 to 7: -15 to 21 */
+    {"42", {0x0000000000000000, 0x3ff0000000000000}, {0xbff0000000000000, 0x8000000000000000},
+     {0xbff0000000000000, 0x8000000000000000}, EW_REASON_NONE, 0}, /* 0 to 1, -1 to -0: -1 to -0 */
+    {"42", {0x0000000000000000, 0x3ff0000000000000}, {0x8000000000000000, 0x0000000000000000},
+     {0x8000000000000000, 0x0000000000000000}, EW_REASON_NONE, 0}, /* zeros alone: -0 is the least and +0 the greatest */
+    {"40", {0xfff0000000000000, 0x7ff0000000000000}, {0xfff0000000000000, 0x7ff0000000000000}, {0, 0}, EW_REASON_A_LOW_INFINITE, 0},
+    {"41", {0x3ff0000000000000, 0x7ff0000000000000}, {0xfff0000000000000, 0x7ff0000000000000}, {0, 0}, EW_REASON_A_HIGH_INFINITE, 0},
+    {"42", {0x0000000000000000, 0x0000000000000000}, {0xfff0000000000000, 0x7ff0000000000000}, {0, 0}, EW_REASON_B_LOW_INFINITE, 1},
+    {"40", {0x7fefffffffffffff, 0x7fefffffffffffff}, {0x7fefffffffffffff, 0x7ff0000000000000}, {0, 0}, EW_REASON_B_HIGH_INFINITE, 1},
+    {"40", {0xffefffffffffffff, 0x7fefffffffffffff}, {0xffefffffffffffff, 0x7fefffffffffffff}, {0, 0}, EW_REASON_ANSWER_LOW_OVERFLOWS, 0},
+    {"41", {0xbff0000000000000, 0x7fefffffffffffff}, {0xffefffffffffffff, 0x3ff0000000000000}, {0, 0}, EW_REASON_ANSWER_HIGH_OVERFLOWS, 0},
+    {"42", {0xffefffffffffffff, 0x0000000000000000}, {0xc000000000000000, 0x0000000000000000}, {0, 0}, EW_REASON_ANSWER_HIGH_OVERFLOWS, 0},
+};
+
+static void check_sum_ranges(void)
+{
+    char text[3 * EW_RECIPE_LINE + 1], line[EW_SHEET_LINE + 1];
+    const uint8_t *const recipe_of_two = (const uint8_t *)text;
+    uint8_t sheet[3 * EW_SHEET_LINE];
+    size_t i;
+    for (i = 0; i < LENGTH(sum_ranges); i++) {
+        const uint64_t *const a = sum_ranges[i].a, *const b = sum_ranges[i].b, *const range = sum_ranges[i].range, reason = sum_ranges[i].reason;
+        ew_sheet_answer s;
+        ew_explain_answer e;
+        snprintf(text, sizeof text, "010000%016llx%016llx\n010000%016llx%016llx\n%s0001%032d\n", (unsigned long long)a[0], (unsigned long long)a[1],
+                 (unsigned long long)b[0], (unsigned long long)b[1], sum_ranges[i].opcode, 0);
+        s = ew_sheet(recipe_of_two, 3 * EW_RECIPE_LINE, sheet, sizeof sheet);
+        check("refusal of a range", i, s.refusal,
+              reason == EW_REASON_NONE ? EW_ACCEPTED : reason >= EW_REASON_ANSWER_LOW_OVERFLOWS ? EW_REFUSED_OVERFLOW : EW_REFUSED_REMAINDER);
+        snprintf(line, sizeof line, "020100%016llx%016llx\n", (unsigned long long)range[0], (unsigned long long)range[1]);
+        if (reason == EW_REASON_NONE)
+            check("range", i, memcmp(sheet + 2 * EW_SHEET_LINE, line, EW_SHEET_LINE) == 0, 1);
+        e = ew_explain(recipe_of_two, 3 * EW_RECIPE_LINE);
+        check("reason of a range", i, e.reason, reason);
+        check("step of a range", i, e.step, reason == EW_REASON_NONE ? 0 : 2);
+        check("operand of a range", i, e.operand, sum_ranges[i].operand);
+    }
+}
+
 /* An array of length 0 may be NULL, each of them alone and all at once. */
 static void check_nothing(void)
 {
@@ -808,6 +923,8 @@ int main(void)
         check_lines();
         check_sheet();
         check_explain();
+        check_sums();
+        check_sum_ranges();
         check_nothing();
         check_addresses();
     }
