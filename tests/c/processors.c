@@ -1,6 +1,6 @@
 /*
  * The same answers on every processor: a million patterns through every function at both widths, every half through those that take
- * one, and recipes through ew_run, ew_run_lines, ew_sheet and ew_explain, to be run on processors that differ (tests/c/processors.sh) and compared. Linked
+ * one, a million pairs through sums, differences and products of doubles, and recipes through ew_run, ew_run_lines, ew_sheet and ew_explain, to be run on processors that differ (tests/c/processors.sh) and compared. Linked
  * statically, so that an emulator needs nothing else.
  *
  *     processors cpu                             what the processor says of itself
@@ -20,6 +20,7 @@
 #include <stdlib.h>
 #include <string.h>
 
+#include "cross_check.h"
 #include "estrenwind.h"
 
 enum { PATTERNS = 1000000, HALVES = 65536 };
@@ -180,6 +181,15 @@ PAIR(nextafter, word, refusal, x, y)
 REMQUO(64)
 REMQUO(32)
 
+/* Of finite numbers alone: others lose the first place of their exponent. */
+static uint64_t made_finite(uint64_t x) { return (x >> 52 & 2047) == 2047 ? x ^ UINT64_C(1) << 62 : x; }
+
+#define SUM(name) \
+    static uint64_t name##64(operands o, uint64_t h) { return hashed(h, ew_check_##name(made_finite(o.x), made_finite(o.y))); }
+SUM(sum)
+SUM(difference)
+SUM(product)
+
 static const struct {
     const char *name;
     uint64_t (*f64)(operands, uint64_t), (*f32)(operands, uint64_t), (*f16)(operands, uint64_t); /* NULL where there is none */
@@ -188,7 +198,7 @@ static const struct {
 #define ROW3(name) {#name, name##64, name##32, name##16}
     ROW(classify), ROW(fabs), ROW(negate), ROW3(floor), ROW3(ceil), ROW3(trunc), ROW3(round), ROW3(nearbyint), ROW(lround), ROW(modf), ROW(frexp),
     ROW(ldexp), ROW(fmod), ROW(remainder), ROW(remquo), ROW(nextafter), ROW(fmin), ROW(fmax), {"f16_to_f32", NULL, NULL, f16_to_f32},
-    {"f32_to_f16", NULL, f32_to_f16, NULL},
+    {"f32_to_f16", NULL, f32_to_f16, NULL}, {"sum", sum64, NULL, NULL}, {"difference", difference64, NULL, NULL}, {"product", product64, NULL, NULL},
 };
 
 static void all_functions(void)

@@ -39,7 +39,7 @@ for processor in here old new; do
     on $processor "$build/processors" functions >"$work/functions.$processor"
 done
 same functions "$work/functions.here" "$work/functions.old" "$work/functions.new"
-echo "functions: 18 at two widths and export to halves, a million patterns each, 6 of every half: checksum $(sed -n 's/^all //p' "$work/functions.here"), here and on both"
+echo "functions: 18 at two widths, export to halves, sums, differences and products of doubles, a million patterns each, 6 of every half: checksum $(sed -n 's/^all //p' "$work/functions.here"), here and on both"
 
 # Buckets of calls by turns on the one and the other, joined again in their order.
 for kind in runs lines sheets explanations; do
@@ -50,7 +50,12 @@ for kind in runs lines sheets explanations; do
     same $kind "$work/$kind.here" "$work/$kind.joined"
     echo "$kind: $(grep -c . "$work/$kind.here") calls, buckets by turns on the old and the new: one file of answers, $(cksum <"$work/$kind.here")"
 done
-[ "$(cut -d ' ' -f 6 "$work/explanations.here" | sort -u | wc -l)" -eq 14 ] || { echo "not every reason came up" >&2; exit 1; }
+[ "$(cut -d ' ' -f 6 "$work/explanations.here" | sort -u | wc -l)" -eq 20 ] || { echo "not every reason came up" >&2; exit 1; }
+# Steps 40 to 42 are the ones that a processor would work out in its own way. A text's first line follows its length, and is not seen here.
+for opcode in 40 41 42; do
+    steps=$(grep -ac "^$opcode[0-9a-f]\{36\}\$" "$work/calls") || true
+    [ "$steps" -ge 1000 ] || { echo "step $opcode came up only $steps times" >&2; exit 1; }
+done
 
 # The program run: every other frame on the old one. The programs sheet and explain: each; explain on the recipe, and on one whose last step may
 # overflow.
