@@ -757,6 +757,9 @@ static int print_half_targets(void)
     return missed_rows;
 }
 
+/* The processor's column is never empty: what could not be measured is missed. */
+static int hold_host(int row, int set, double most) { return hold_ratio(row, set, HOST, most) | isnan(ratio(row, set, HOST)); }
+
 static int print_arithmetic_targets(void)
 {
     int r, s, missed_rows = 0;
@@ -766,8 +769,8 @@ static int print_arithmetic_targets(void)
         if (rows[r].table != ARITHMETIC)
             continue;
         printf("%-28s", rows[r].name);
-        missed |= hold_ratio(r, TEXTURE, HOST, BESIDE_HOST);
-        missed |= hold_ratio(r, ANY_ORDER, HOST, BESIDE_HOST);
+        missed |= hold_host(r, TEXTURE, BESIDE_HOST);
+        missed |= hold_host(r, ANY_ORDER, BESIDE_HOST);
         printf("  %s\n", missed ? "MISSED" : "target met");
         missed_rows += missed;
     }
@@ -778,7 +781,7 @@ static int print_arithmetic_targets(void)
             if (rows[r].table != ARITHMETIC || strcmp(rows[r].name, arithmetic_cases[s].name) != 0)
                 continue;
             printf("%-10s %-17s", rows[r].name, arithmetic_cases[s].what);
-            missed = hold_ratio(r, arithmetic_cases[s].set, HOST, arithmetic_cases[s].limit);
+            missed = hold_host(r, arithmetic_cases[s].set, arithmetic_cases[s].limit);
             printf("  %s\n", missed ? "MISSED" : "target met");
             missed_rows += missed;
         }

@@ -1,12 +1,13 @@
 /*
- * Sums, differences and products in whole numbers, which steps 40 to 42 call, beside the processor's own addsd, subsd and mulsd, bit for bit, and so
- * the same by the language's operations on floats:
+ * Sums, differences and products in whole numbers, which steps 40 to 42 call, beside the processor's own addsd, subsd and mulsd, bit for bit:
  *
  *     on 105 million pairs of finite numbers, drawn to be hard. What a pair is, is told from its exact sum or product in 128 bits and not
  *     from how it was drawn: each sort below is counted, and one that came up less than LEAST times fails the test
- *     on all squares of some hundred edges, infinities and NaNs among them, of which the operations on floats alone say anything
+ *     on all squares of 760 edges, infinities and NaNs among them, of which the language's operations on floats alone say anything
  *     under 16 settings of the processor: four directions of rounding, with flush-to-zero and denormals-are-zero or without. Whole numbers give
  *     the same and raise no flag; the processor's own answers change, under each setting but the usual one
+ *
+ * On the edges and under the settings the language's operations on floats go beside the processor's too.
  */
 #include <emmintrin.h>
 #include <stdio.h>
@@ -62,7 +63,11 @@ static void check_floats(int o, uint64_t x, uint64_t y, uint64_t expected) { che
 
 __extension__ typedef unsigned __int128 wide;
 
-static int length_of(wide w) { return (uint64_t)(w >> 64) != 0 ? 128 - __builtin_clzll((uint64_t)(w >> 64)) : w == 0 ? 0 : 64 - __builtin_clzll((uint64_t)w); }
+static int length_of(wide w)
+{
+    const uint64_t high = (uint64_t)(w >> 64), low = (uint64_t)w;
+    return high != 0 ? 128 - __builtin_clzll(high) : low != 0 ? 64 - __builtin_clzll(low) : 0;
+}
 
 /* A finite number's magnitude: m times 2^scale, counted in the least subnormal number. */
 typedef struct {
