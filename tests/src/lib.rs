@@ -5,6 +5,7 @@
 //! over that table, so a new function is a new row.
 
 pub mod answer;
+pub mod arithmetic;
 pub mod comparison;
 pub mod divisions;
 #[cfg(target_arch = "x86_64")]

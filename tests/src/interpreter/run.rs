@@ -94,6 +94,19 @@ fn or_refused(answer: Answer, number: u64) -> Result<u64, u64> {
     }
 }
 
+/// What the machine's own operation makes of two finite doubles.
+fn computed(a: u64, b: u64, operation: fn(f64, f64) -> f64) -> Result<u64, u64> {
+    let (a, b) = (f64::from_bits(a), f64::from_bits(b));
+    if a.is_infinite() || b.is_infinite() {
+        return Err(20);
+    }
+    let result = operation(a, b);
+    if result.is_infinite() {
+        return Err(21);
+    }
+    Ok(result.to_bits())
+}
+
 /// Works the steps in order; the inputs' values stand at their places.
 fn evaluate(steps: &[Step], values: &mut [u64; MOST_STEPS]) -> Result<(), Refused> {
     for (place, step) in steps.iter().enumerate() {
@@ -124,7 +137,10 @@ fn evaluate(steps: &[Step], values: &mut [u64; MOST_STEPS]) -> Result<(), Refuse
                 .checked_sub(b() as i64)
                 .map(|n| n as u64)
                 .ok_or(21),
-            _ => or_refused(whole::to_double(&BINARY64, a() as i64), 22),
+            0x32 => or_refused(whole::to_double(&BINARY64, a() as i64), 22),
+            0x40 => computed(a(), b(), |a, b| a + b),
+            0x41 => computed(a(), b(), |a, b| a - b),
+            _ => computed(a(), b(), |a, b| a * b),
         };
         values[place] = value.map_err(|number| (number, place))?;
     }

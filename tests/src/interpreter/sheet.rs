@@ -163,14 +163,53 @@ fn range(step: &Step, earlier: &[Range]) -> Result<Range, u64> {
             let high = a_high.checked_sub(b_low).ok_or(21u64)?;
             Ok(Range::of_wholes([low, high]))
         }
-        _ => {
+        0x32 => {
             let [low, high] = wholes(a);
             Ok(Range::of_integers(
                 [to_double(low)?, to_double(high)?],
                 true,
             ))
         }
+        0x40 => {
+            let ([a_low, a_high], [b_low, b_high]) = finite(doubles(a), doubles(b))?;
+            from_both(without_overflow([a_low + b_low, a_high + b_high])?)
+        }
+        0x41 => {
+            let ([a_low, a_high], [b_low, b_high]) = finite(doubles(a), doubles(b))?;
+            from_both(without_overflow([a_low - b_high, a_high - b_low])?)
+        }
+        _ => {
+            let ([a_low, a_high], [b_low, b_high]) = finite(doubles(a), doubles(b))?;
+            let [first, second, third, fourth] = [
+                a_low * b_low,
+                a_low * b_high,
+                a_high * b_low,
+                a_high * b_high,
+            ];
+            let low = fmin(fmin(first, second), fmin(third, fourth));
+            let high = fmax(fmax(first, second), fmax(third, fourth));
+            from_both(without_overflow([low, high])?)
+        }
     }
+}
+
+type TwoRanges = ([f64; 2], [f64; 2]);
+
+/// The ranges, where none of their ends is infinite.
+fn finite(a: [f64; 2], b: [f64; 2]) -> Result<TwoRanges, u64> {
+    if [a, b].as_flattened().iter().any(|end| end.is_infinite()) {
+        return Err(20);
+    }
+    Ok((a, b))
+}
+
+/// The ends, where none is infinite. Of four products that the ends are chosen from, one that is
+/// infinite is an end.
+fn without_overflow(ends: [f64; 2]) -> Result<[f64; 2], u64> {
+    if ends.iter().any(|end| end.is_infinite()) {
+        return Err(21);
+    }
+    Ok(ends)
 }
 
 /// The largest fraction, 1 - 2^-53.

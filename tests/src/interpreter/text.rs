@@ -65,7 +65,7 @@ fn parse_line(line: &[u8], earlier: &[Step]) -> Result<Step, u64> {
         0x02 | 0x04 => (Whole, None, None),
         0x10..=0x17 => (Double, Some(Double), None),
         0x18 => (Whole, Some(Double), None),
-        0x20..=0x22 | 0x24 => (Double, Some(Double), Some(Double)),
+        0x20..=0x22 | 0x24 | 0x40..=0x42 => (Double, Some(Double), Some(Double)),
         0x23 => (Double, Some(Double), Some(Whole)),
         0x30 | 0x31 => (Whole, Some(Whole), Some(Whole)),
         0x32 => (Double, Some(Whole), None),

@@ -6,6 +6,7 @@
 //! here, and no trick on patterns: a result is a whole number first and turned into its pattern
 //! last. `short` alone takes shorter ways to the same answers, and is held against the others.
 
+pub mod arithmetic;
 pub mod conversion;
 pub mod fmod;
 pub mod format;

@@ -207,6 +207,21 @@ impl Mul<u64> for &Natural {
     }
 }
 
+impl Mul<&Natural> for &Natural {
+    type Output = Natural;
+
+    /// A row for each limb of the factor, moved to its place, and their sum.
+    fn mul(self, factor: &Natural) -> Natural {
+        let mut product = Natural::from(0);
+        for (place, &limb) in factor.limbs.iter().enumerate() {
+            if limb != 0 {
+                product = &product + &(&(self * limb) << (64 * place as u32));
+            }
+        }
+        product
+    }
+}
+
 impl Shl<u32> for &Natural {
     type Output = Natural;
 
@@ -272,6 +287,9 @@ mod tests {
                 if a >= b {
                     assert_eq!(&natural(a) - &natural(b), natural(a - b), "{a} - {b}");
                 }
+                if let Some(product) = a.checked_mul(b) {
+                    assert_eq!(&natural(a) * &natural(b), natural(product), "{a} * {b}");
+                }
             }
         }
     }
@@ -318,6 +336,11 @@ mod tests {
             assert!(remainder < power);
             assert_eq!(&(&quotient << exponent) + &remainder, a);
             assert_eq!(a.div_rem(&power), (quotient, remainder));
+
+            let b = &(&Natural::from(random.word() | 1) << (exponent / 3)) + &Natural::from(5);
+            let product = &a * &b;
+            assert_eq!(product, &b * &a);
+            assert_eq!(product.div_rem(&b), (a.clone(), Natural::from(0)));
 
             let divisor = random.word() | 1;
             let (quotient, remainder) = a.div_rem(&Natural::from(divisor));

@@ -1,6 +1,7 @@
 //! The reference against the statements of document 01 and of the requests after it, mostly on
 //! formats so small that every pattern is tried.
 
+mod arithmetic;
 mod conversion;
 mod counting;
 mod explain;

@@ -2,9 +2,10 @@
 //! gives the step, the step of an operand, and the code of a fact about the operands' ranges.
 
 use super::operations::{Function, Kind, Operation, Way};
-use super::ranges::{is_infinite, scaling_powers, Range};
+use super::ranges::{is_infinite, least_and_greatest, pairs_of_ends, scaling_powers, Range};
 use super::text::Step;
 use super::{sheet, text, Refusal};
+use crate::reference::BINARY64;
 
 /// The first step that the sheet refuses, the step of the operand that is to blame, and why.
 #[derive(Clone, Copy, Debug, PartialEq, Eq)]
@@ -57,10 +58,37 @@ fn a_high_is_infinite(_: &Function, _: Way, a: Range, _: Range) -> bool {
     is_infinite(a.high)
 }
 
+fn b_low_is_infinite(_: &Function, _: Way, _: Range, b: Range) -> bool {
+    is_infinite(b.low)
+}
+
+fn b_high_is_infinite(_: &Function, _: Way, _: Range, b: Range) -> bool {
+    is_infinite(b.high)
+}
+
+/// Whether finite operands have a sum, a difference or a product that is infinite.
+fn overflows(function: &Function, way: Way, x: u64, y: u64) -> bool {
+    function.value(way, x, y) == Err(21)
+}
+
+/// The end products as numbers, infinities among them; none where an end is infinite.
+fn end_products(product: &Function, way: Way, a: Range, b: Range) -> Option<Range> {
+    let mut products = Vec::with_capacity(4);
+    for [x, y] in pairs_of_ends(a, b) {
+        products.push(match product.value(way, x, y) {
+            Ok(word) => word,
+            Err(21) => BINARY64.infinity() | ((x ^ y) & BINARY64.sign_bit()),
+            Err(_) => return None,
+        });
+    }
+    Some(least_and_greatest(way, &products))
+}
+
 /// "Codes in order": of those that share an opcode, the first that is true is given. "For 06, 07
-/// and ldexp the operand given is A." "Step 24 shares 01 to 03."
+/// and ldexp the operand given is A." "Step 24 shares 01 to 03." W-208: "0e to 11, an infinite end (a
+/// low, a high, b low, b high), and 12, 13, low and high answer overflows, naming A".
 #[rustfmt::skip]
-pub static REASONS: [Reason; 18] = [
+pub static REASONS: [Reason; 36] = [
     // "divisor range holds zero"
     reason(0x01, 0x22, B, b_holds_zero),
     reason(0x01, 0x24, B, b_holds_zero),
@@ -92,6 +120,30 @@ pub static REASONS: [Reason; 18] = [
     // "whole too big at its low, high end"
     reason(0x0c, 0x32, A, |to_double, way, a, _| to_double.value(way, a.low, 0).is_err()),
     reason(0x0d, 0x32, A, |to_double, way, a, _| to_double.value(way, a.high, 0).is_err()),
+    // "an infinite end (a low, a high, b low, b high)"
+    reason(0x0e, 0x40, A, a_low_is_infinite),
+    reason(0x0e, 0x41, A, a_low_is_infinite),
+    reason(0x0e, 0x42, A, a_low_is_infinite),
+    reason(0x0f, 0x40, A, a_high_is_infinite),
+    reason(0x0f, 0x41, A, a_high_is_infinite),
+    reason(0x0f, 0x42, A, a_high_is_infinite),
+    reason(0x10, 0x40, B, b_low_is_infinite),
+    reason(0x10, 0x41, B, b_low_is_infinite),
+    reason(0x10, 0x42, B, b_low_is_infinite),
+    reason(0x11, 0x40, B, b_high_is_infinite),
+    reason(0x11, 0x41, B, b_high_is_infinite),
+    reason(0x11, 0x42, B, b_high_is_infinite),
+    // "low and high answer overflows, naming A"
+    reason(0x12, 0x40, A, |sum, way, a, b| overflows(sum, way, a.low, b.low)),
+    reason(0x12, 0x41, A, |difference, way, a, b| overflows(difference, way, a.low, b.high)),
+    reason(0x12, 0x42, A, |product, way, a, b| {
+        end_products(product, way, a, b).is_some_and(|answer| is_infinite(answer.low))
+    }),
+    reason(0x13, 0x40, A, |sum, way, a, b| overflows(sum, way, a.high, b.high)),
+    reason(0x13, 0x41, A, |difference, way, a, b| overflows(difference, way, a.high, b.low)),
+    reason(0x13, 0x42, A, |product, way, a, b| {
+        end_products(product, way, a, b).is_some_and(|answer| is_infinite(answer.high))
+    }),
 ];
 
 /// The reasons that are true of a step on operands with the ranges a and b, in code order.

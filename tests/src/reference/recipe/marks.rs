@@ -21,9 +21,9 @@ pub fn is_marked(way: Way, operation: &Operation, range: Range, a: bool, b: bool
         0x10..=0x14 => !is_infinite(range.low) && !is_infinite(range.high),
         // "fabs and negate keep the mark"
         0x16 | 0x17 => a,
-        // "fmin, fmax and fmod have it when both operands do", and W-204's remainder, "marked when both
-        // operands are"
-        0x20..=0x22 | 0x24 => a && b,
+        // "fmin, fmax and fmod have it when both operands do", and W-204's remainder and W-208's sums,
+        // differences and products, "marked when both operands are"
+        0x20..=0x22 | 0x24 | 0x40..=0x42 => a && b,
         // "all others lack it": modf's fraction and ldexp, even where they can only be integers
         _ => false,
     }

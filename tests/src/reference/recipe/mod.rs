@@ -1,5 +1,5 @@
 //! Recipes, their runs, their sheets, and why they are turned down: "Recipe text" and "Turning text
-//! down" of document 01 and requests W-203 to W-205, rule by rule.
+//! down" of document 01 and requests W-203 to W-205 and W-208, rule by rule.
 //!
 //! `operations` is the table of steps, said once; `text` turns recipe text into steps, `frame`
 //! reads the inputs, `run` works the steps, and `lines` does so for one frame line after the other.

@@ -3,7 +3,7 @@
 use super::ranges::{self, Range, Rule};
 use crate::answer::Answer;
 use crate::reference::{
-    fmod, ldexp, order, parts, remainder, rounding, short, whole, Class, BINARY64,
+    arithmetic, fmod, ldexp, order, parts, remainder, rounding, short, whole, Class, BINARY64,
 };
 use std::cmp::Ordering;
 
@@ -34,8 +34,9 @@ pub struct Function {
     exact: Words,
     short: Words,
     first_of_equal: Words,
-    /// The number with which the step is refused where the function is.
-    refusal: u64,
+    /// The numbers with which the step is refused where the function is: for operands that it has no
+    /// answer for, and for a result that is too large.
+    refusals: [u64; 2],
     rule: Rule,
 }
 
@@ -47,9 +48,11 @@ impl Function {
             Way::Short => (self.short)(a, b),
             Way::FirstOfEqual => (self.first_of_equal)(a, b),
         };
+        let [of_operands, of_result] = self.refusals;
         match answer.refusal {
             0 => Ok(answer.words[0]),
-            _ => Err(self.refusal),
+            3 => Err(of_result),
+            _ => Err(of_operands),
         }
     }
 
@@ -186,13 +189,22 @@ const fn two(opcode: u8, [a, b]: [Kind; 2], kind: Kind, function: Function) -> O
     }
 }
 
+/// A function that refuses with one number whatever its own is.
 const fn refusing(refusal: u64, rule: Rule, exact: Words, short: Words) -> Function {
     Function {
         exact,
         short,
         first_of_equal: short,
-        refusal,
+        refusals: [refusal; 2],
         rule,
+    }
+}
+
+/// A sum, difference or product. W-208: "20 for an infinite operand, then 21 for an infinite result".
+const fn computing(rule: Rule, exact: Words, short: Words) -> Function {
+    Function {
+        refusals: [20, 21],
+        ..refusing(0, rule, exact, short)
     }
 }
 
@@ -213,7 +225,7 @@ use Kind::{Double, Whole};
 
 /// Every opcode there is.
 #[rustfmt::skip]
-pub static OPERATIONS: [Operation; 21] = [
+pub static OPERATIONS: [Operation; 24] = [
     input(0x01, Double),
     input(0x02, Whole),
     constant(0x03, Double),
@@ -287,5 +299,17 @@ pub static OPERATIONS: [Operation; 21] = [
     one(0x32, Whole, Double, refusing(22, ranges::of_ends,
         |a, _| whole::to_double(&BINARY64, a as i64),
         |a, _| short::whole::to_double(&BINARY64, a as i64),
+    )),
+    two(0x40, [Double, Double], Double, computing(ranges::of_sum,
+        |a, b| arithmetic::sum(&BINARY64, a, b),
+        |a, b| short::arithmetic::sum(&BINARY64, a, b),
+    )),
+    two(0x41, [Double, Double], Double, computing(ranges::of_difference,
+        |a, b| arithmetic::difference(&BINARY64, a, b),
+        |a, b| short::arithmetic::difference(&BINARY64, a, b),
+    )),
+    two(0x42, [Double, Double], Double, computing(ranges::of_product,
+        |a, b| arithmetic::product(&BINARY64, a, b),
+        |a, b| short::arithmetic::product(&BINARY64, a, b),
     )),
 ];

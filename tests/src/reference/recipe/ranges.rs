@@ -173,6 +173,58 @@ pub fn scaling_powers(way: Way, a: Range, b: Range) -> [u64; 2] {
     [by_low, by_high]
 }
 
+/// "add low+low to high+high". Refusal 20: "infinite end", then 21: "any end sum".
+pub fn of_sum(function: &Function, way: Way, a: Range, b: Range) -> Result<Range, u64> {
+    expect_finite_ends(a, b)?;
+    of_ends(function, way, a, b)
+}
+
+/// "subtract low-high to high-low". Refused as a sum, 21 for an end difference.
+pub fn of_difference(function: &Function, way: Way, a: Range, b: Range) -> Result<Range, u64> {
+    expect_finite_ends(a, b)?;
+    of_crossed_ends(function, way, a, b)
+}
+
+/// "multiply the fmin and the fmax of the four end products". Refused as a sum, 21 for any of the four.
+pub fn of_product(function: &Function, way: Way, a: Range, b: Range) -> Result<Range, u64> {
+    expect_finite_ends(a, b)?;
+    let mut products = Vec::with_capacity(4);
+    for [x, y] in pairs_of_ends(a, b) {
+        products.push(function.value(way, x, y)?);
+    }
+    Ok(least_and_greatest(way, &products))
+}
+
+/// Each end of a with each of b.
+pub fn pairs_of_ends(a: Range, b: Range) -> [[u64; 2]; 4] {
+    [
+        [a.low, b.low],
+        [a.low, b.high],
+        [a.high, b.low],
+        [a.high, b.high],
+    ]
+}
+
+/// The fmin and the fmax of some numbers.
+pub fn least_and_greatest(way: Way, numbers: &[u64]) -> Range {
+    let chosen = |choose: fn(Way, u64, u64) -> u64| {
+        let numbers = numbers.iter().copied();
+        numbers.reduce(|x, y| choose(way, x, y)).expect("a number")
+    };
+    Range {
+        low: chosen(fmin),
+        high: chosen(fmax),
+    }
+}
+
+/// Refusal 20: "an infinite operand (sheet: infinite end)".
+fn expect_finite_ends(a: Range, b: Range) -> Result<(), u64> {
+    match [a.low, a.high, b.low, b.high].into_iter().any(is_infinite) {
+        true => Err(20),
+        false => Ok(()),
+    }
+}
+
 /// As numbers: that fmin and fmax tell the zeros apart (W-202) changes no comparison of a rule.
 fn compare(way: Way, x: u64, y: u64) -> Ordering {
     Kind::Double.compare(way, x, y)

@@ -6,6 +6,7 @@
 //! for. The tests hold the two against each other. `first_of_equal` alone has other answers: those
 //! from before W-202.
 
+pub mod arithmetic;
 pub mod conversion;
 pub mod first_of_equal;
 pub mod fmod;
