@@ -16,7 +16,8 @@ const FATES: [Fate; 3] = [Fate::ChosenHere, Fate::HandedOn, Fate::Ended];
 /// What can become of a zero's sign at a step, and nothing else can: `recipes::zeros` says why.
 fn fates(opcode: u8, part: Part) -> &'static [Fate] {
     match (opcode, part) {
-        (0x20 | 0x21, _) => &FATES,
+        (0x20 | 0x21, _) | (0x42, Part::Low | Part::High) => &FATES,
+        (0x40..=0x42, _) => &[Fate::HandedOn, Fate::Ended],
         (0x10..=0x14 | 0x17 | 0x23, _) | (0x15 | 0x22 | 0x24, Part::Word) => &[Fate::HandedOn],
         (0x15 | 0x16 | 0x18 | 0x22 | 0x24, _) => &[Fate::Ended],
         _ => &[],

@@ -10,15 +10,18 @@ use std::io::{self, Write};
 use std::process::ExitCode;
 
 /// The examples that are printed.
-const EXAMPLES: [(u8, Part, Fate); 8] = [
+const EXAMPLES: [(u8, Part, Fate); 11] = [
     (0x20, Part::Word, Fate::ChosenHere),
     (0x21, Part::Word, Fate::ChosenHere),
     (0x10, Part::Word, Fate::HandedOn),
     (0x22, Part::Word, Fate::HandedOn),
     (0x24, Part::Word, Fate::HandedOn),
+    (0x40, Part::Word, Fate::HandedOn),
+    (0x42, Part::Word, Fate::HandedOn),
     (0x20, Part::Low, Fate::ChosenHere),
     (0x21, Part::High, Fate::ChosenHere),
     (0x17, Part::High, Fate::HandedOn),
+    (0x42, Part::Low, Fate::ChosenHere),
 ];
 
 fn write(output: &mut impl Write) -> io::Result<Counts> {

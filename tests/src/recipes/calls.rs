@@ -264,7 +264,9 @@ impl Call for ExplainCall {
     type Worked = Option<Explanation>;
 
     const REFUSALS: &'static [u64] = &EXPLAIN_REFUSALS;
-    const REASONS: &'static [u64] = &[1, 2, 3, 4, 5, 6, 7, 8, 9, 10, 11, 12, 13];
+    const REASONS: &'static [u64] = &[
+        1, 2, 3, 4, 5, 6, 7, 8, 9, 10, 11, 12, 13, 14, 15, 16, 17, 18, 19,
+    ];
     const GROW: Grow = grow_sheet;
     const BEFORE: usize = 5;
     const BEYOND: usize = 40;
@@ -325,8 +327,8 @@ impl Call for ExplainCall {
     fn refusal(answer: ExplainAnswer) -> Refusal {
         let (number, place) = match answer.reason {
             0x00 => (answer.refusal, answer.place),
-            0x01..=0x03 => (20, answer.step),
-            0x04..=0x0b => (21, answer.step),
+            0x01..=0x03 | 0x0e..=0x11 => (20, answer.step),
+            0x04..=0x0b | 0x12 | 0x13 => (21, answer.step),
             0x0c | 0x0d => (22, answer.step),
             reason => panic!("there is no reason {reason:x}"),
         };

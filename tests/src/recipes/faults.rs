@@ -174,14 +174,14 @@ fn wrong_byte(random: &mut Random, text: &mut [u8], beside: Option<usize>) -> Op
 }
 
 fn wrong_opcode(random: &mut Random, draft: &mut Draft, beside: Option<usize>) -> Option<usize> {
-    const NEAR: [u8; 12] = [
-        0x00, 0x05, 0x0f, 0x19, 0x1f, 0x25, 0x2f, 0x33, 0x42, 0x81, 0x90, 0xff,
+    const NEAR: [u8; 13] = [
+        0x00, 0x05, 0x0f, 0x19, 0x1f, 0x25, 0x2f, 0x33, 0x3f, 0x43, 0x81, 0x90, 0xff,
     ];
     let places = lines_where(draft, |_, _| true);
     let place = chosen(random, &places, beside)?;
     draft.lines[place].opcode = loop {
         let opcode = match random.below(2) {
-            0 => NEAR[random.below(12) as usize],
+            0 => random.one_of(&NEAR),
             _ => random.word() as u8,
         };
         if Operation::of_opcode(opcode).is_none() {

@@ -34,7 +34,7 @@ const fn of_one_step_too(opcode: u8, codes: &'static [u8]) -> Facts {
 }
 
 /// Every set of facts that can be true at once.
-pub const FACTS: [Facts; 34] = [
+pub const FACTS: [Facts; 100] = [
     of_one_step_too(0x22, &[0x01]),
     of_one_step_too(0x22, &[0x02]),
     of_one_step_too(0x22, &[0x03]),
@@ -71,6 +71,75 @@ pub const FACTS: [Facts; 34] = [
     facts(0x32, &[0x0c]),
     facts(0x32, &[0x0d]),
     facts(0x32, &[0x0c, 0x0d]),
+    // An infinite end doesn't overflow, but the answer's other end may.
+    facts(0x40, &[0x0e]),
+    facts(0x40, &[0x0f]),
+    facts(0x40, &[0x10]),
+    facts(0x40, &[0x11]),
+    of_one_step_too(0x40, &[0x12]),
+    of_one_step_too(0x40, &[0x13]),
+    facts(0x40, &[0x0e, 0x0f]),
+    of_one_step_too(0x40, &[0x0e, 0x10]),
+    facts(0x40, &[0x0e, 0x11]),
+    facts(0x40, &[0x0e, 0x13]),
+    facts(0x40, &[0x0f, 0x10]),
+    of_one_step_too(0x40, &[0x0f, 0x11]),
+    facts(0x40, &[0x0f, 0x12]),
+    facts(0x40, &[0x10, 0x11]),
+    facts(0x40, &[0x10, 0x13]),
+    facts(0x40, &[0x11, 0x12]),
+    of_one_step_too(0x40, &[0x12, 0x13]),
+    facts(0x40, &[0x0e, 0x0f, 0x10]),
+    facts(0x40, &[0x0e, 0x0f, 0x11]),
+    facts(0x40, &[0x0e, 0x10, 0x11]),
+    of_one_step_too(0x40, &[0x0e, 0x10, 0x13]),
+    facts(0x40, &[0x0f, 0x10, 0x11]),
+    of_one_step_too(0x40, &[0x0f, 0x11, 0x12]),
+    of_one_step_too(0x40, &[0x0e, 0x0f, 0x10, 0x11]),
+    // low - high is -(high - low): of one step both overflow, or neither.
+    facts(0x41, &[0x0e]),
+    facts(0x41, &[0x0f]),
+    facts(0x41, &[0x10]),
+    facts(0x41, &[0x11]),
+    facts(0x41, &[0x12]),
+    facts(0x41, &[0x13]),
+    facts(0x41, &[0x0e, 0x0f]),
+    of_one_step_too(0x41, &[0x0e, 0x10]),
+    facts(0x41, &[0x0e, 0x11]),
+    facts(0x41, &[0x0e, 0x13]),
+    facts(0x41, &[0x0f, 0x10]),
+    of_one_step_too(0x41, &[0x0f, 0x11]),
+    facts(0x41, &[0x0f, 0x12]),
+    facts(0x41, &[0x10, 0x11]),
+    facts(0x41, &[0x10, 0x12]),
+    facts(0x41, &[0x11, 0x13]),
+    of_one_step_too(0x41, &[0x12, 0x13]),
+    facts(0x41, &[0x0e, 0x0f, 0x10]),
+    facts(0x41, &[0x0e, 0x0f, 0x11]),
+    facts(0x41, &[0x0e, 0x10, 0x11]),
+    facts(0x41, &[0x0e, 0x11, 0x13]),
+    facts(0x41, &[0x0f, 0x10, 0x11]),
+    facts(0x41, &[0x0f, 0x10, 0x12]),
+    of_one_step_too(0x41, &[0x0e, 0x0f, 0x10, 0x11]),
+    // The four products have every end among their operands.
+    facts(0x42, &[0x0e]),
+    facts(0x42, &[0x0f]),
+    facts(0x42, &[0x10]),
+    facts(0x42, &[0x11]),
+    facts(0x42, &[0x12]),
+    of_one_step_too(0x42, &[0x13]),
+    facts(0x42, &[0x0e, 0x0f]),
+    of_one_step_too(0x42, &[0x0e, 0x10]),
+    facts(0x42, &[0x0e, 0x11]),
+    facts(0x42, &[0x0f, 0x10]),
+    of_one_step_too(0x42, &[0x0f, 0x11]),
+    facts(0x42, &[0x10, 0x11]),
+    of_one_step_too(0x42, &[0x12, 0x13]),
+    facts(0x42, &[0x0e, 0x0f, 0x10]),
+    facts(0x42, &[0x0e, 0x0f, 0x11]),
+    facts(0x42, &[0x0e, 0x10, 0x11]),
+    facts(0x42, &[0x0f, 0x10, 0x11]),
+    of_one_step_too(0x42, &[0x0e, 0x0f, 0x10, 0x11]),
 ];
 
 /// Where the refused step stands in its recipe.
@@ -89,9 +158,14 @@ pub const PLACES: [Place; 3] = [Place::First, Place::Some, Place::Last];
 impl Random {
     /// Ranges for the operands of a step: of one step if `same`. One that isn't used is 0 to 0.
     pub fn operands(&mut self, operation: &Operation, same: bool) -> [Range; 2] {
+        let computes = (0x40..=0x42).contains(&operation.opcode);
         let mut range = |kind| {
             let [low, high] = match self.below(4) {
                 0 => self.declared_range(kind),
+                1 | 2 if computes => {
+                    let are_infinite = [(); 2].map(|_| self.below(3) == 0);
+                    self.far_range(are_infinite)
+                }
                 _ => self.range(kind),
             };
             Range { low, high }
@@ -104,12 +178,26 @@ impl Random {
         }
     }
 
+    /// Ranges on which some of these facts are true: of a sum, a difference or a product those of
+    /// infinite ends are, and no others of them.
+    fn operands_for(&mut self, operation: &Operation, facts: &Facts, same: bool) -> [Range; 2] {
+        if !(0x40..=0x42).contains(&operation.opcode) {
+            return self.operands(operation, same);
+        }
+        let [a, b] = [[0x0e, 0x0f], [0x10, 0x11]].map(|codes| {
+            let are_infinite = codes.map(|code| facts.codes.contains(&code));
+            let [low, high] = self.far_range(are_infinite);
+            Range { low, high }
+        });
+        [a, if same { a } else { b }]
+    }
+
     /// A recipe with a step of which these facts are true and no other, and that step. Those before
     /// it are not refused. A and B name the same step if `same`.
     pub fn turned_down(&mut self, facts: &Facts, place: Place, same: bool) -> (Draft, usize) {
         let operation = Operation::of_opcode(facts.opcode).expect("an opcode");
         let ranges = loop {
-            let [a, b] = self.operands(operation, same);
+            let [a, b] = self.operands_for(operation, facts, same);
             let codes = reasons(Way::Short, operation, a, b).map(|reason| reason.code);
             if codes.eq(facts.codes.iter().copied()) {
                 break [a, b];

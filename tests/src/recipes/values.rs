@@ -176,6 +176,39 @@ impl Random {
         }
     }
 
+    /// The ends of a range of doubles, far out, with just these ends infinite: finite ones are the
+    /// largest, ones whose squares are about as large, or any.
+    pub fn far_range(&mut self, [low, high]: [bool; 2]) -> [u64; 2] {
+        let infinity = BINARY64.infinity();
+        let [lowest, highest] = [BINARY64.negate(infinity), infinity];
+        let finite = |random: &mut Random| {
+            let fields = match random.below(8) {
+                0..=2 => 2046..2047,
+                3 | 4 => 2040..2047,
+                5 => 1023 + 509..1023 + 515,
+                _ => 0..2047,
+            };
+            let field = random.within(fields) as u64;
+            random.in_field(&BINARY64, field)
+        };
+        match (low, high) {
+            (true, true) => match self.below(4) {
+                0 => [lowest; 2],
+                1 => [highest; 2],
+                _ => [lowest, highest],
+            },
+            (true, false) => [lowest, finite(self)],
+            (false, true) => [finite(self), highest],
+            (false, false) => {
+                let (one, another) = (finite(self), finite(self));
+                match rank(Kind::Double, one) <= rank(Kind::Double, another) {
+                    true => [one, another],
+                    false => [another, one],
+                }
+            }
+        }
+    }
+
     /// The ends of an input's range: equal, neighbours, anything to anything, to infinity.
     pub fn range(&mut self, kind: Kind) -> [u64; 2] {
         let [lowest, highest] = match kind {
@@ -341,18 +374,22 @@ impl Random {
         (self.word() & BINARY64.sign_bit()) | BINARY64.infinity() | payload
     }
 
-    /// A constant that makes steps refuse: fmod and remainder (20), the steps with whole answers and
-    /// ldexp (21), or the turn to a double (22).
+    /// A constant that makes steps refuse: fmod, remainder, sums and products (20), the steps with
+    /// whole answers, ldexp, sums and products (21), or the turn to a double (22).
     pub fn troublesome(&mut self, refusal: u64) -> (Kind, u64) {
         let infinity = BINARY64.infinity() | (self.word() & BINARY64.sign_bit());
         let zero = self.word() & BINARY64.sign_bit();
         let near = |random: &mut Random, n: i64| n.saturating_add(random.within(-2..3)) as u64;
         match refusal {
             20 => (Kind::Double, self.one_of(&[zero, infinity])),
-            21 => match self.below(4) {
+            21 => match self.below(5) {
                 0 => {
                     let beyond = self.one_of(&[0x43e0000000000000, 0xc3e0000000000001, infinity]);
                     (Kind::Double, beyond)
+                }
+                4 => {
+                    let field = self.one_of(&[2045, 2046]);
+                    (Kind::Double, self.in_field(&BINARY64, field))
                 }
                 1 => (Kind::Whole, self.within(1..2100) as u64),
                 2 => (Kind::Whole, near(self, i64::MIN)),

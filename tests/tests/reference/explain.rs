@@ -22,17 +22,17 @@ fn codes(way: Way, operation: &'static Operation, [a, b]: [Range; 2]) -> Vec<u8>
     reasons.map(|reason| reason.code).collect()
 }
 
-/// "Codes in order": from 01 to 0d, one after the other for each opcode. "For 06, 07 and ldexp the
-/// operand given is A."
+/// "Codes in order": from 01 to 13, one after the other for each opcode. "For 06, 07 and ldexp the
+/// operand given is A." W-208: "12, 13 .. naming A".
 #[test]
 fn codes_are_in_order() {
     let codes: Vec<u8> = REASONS.iter().map(|reason| reason.code).collect();
     assert!(codes.is_sorted());
     let codes: BTreeSet<u8> = codes.into_iter().collect();
-    assert!(codes.into_iter().eq(0x01..=0x0d));
+    assert!(codes.into_iter().eq(0x01..=0x13));
     for reason in &REASONS {
         let expected = match reason.code {
-            0x01 => Operand::B,
+            0x01 | 0x10 | 0x11 => Operand::B,
             _ => Operand::A,
         };
         assert_eq!(reason.operand, expected, "{:x}", reason.code);
@@ -40,7 +40,7 @@ fn codes_are_in_order() {
 }
 
 /// Where the rules refuse, a fact of the opcode is true, and where one is, they refuse: 20 for 01
-/// to 03, 21 for 04 to 0b, 22 for 0c and 0d.
+/// to 03 and 0e to 11, 21 for 04 to 0b, 12 and 13, 22 for 0c and 0d.
 #[test]
 fn a_step_is_refused_exactly_where_a_fact_is_true() {
     let mut random = Random::new(0x520);
@@ -50,8 +50,8 @@ fn a_step_is_refused_exactly_where_a_fact_is_true() {
             let [a, b] = random.operands(operation, false);
             let first = reasons(Way::Exact, operation, a, b).next();
             let refusal = first.map(|reason| match reason.code {
-                0x01..=0x03 => 20,
-                0x04..=0x0b => 21,
+                0x01..=0x03 | 0x0e..=0x11 => 20,
+                0x04..=0x0b | 0x12 | 0x13 => 21,
                 _ => 22,
             });
             let given = function.range(Way::Exact, a, b).err();

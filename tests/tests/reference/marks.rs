@@ -36,7 +36,7 @@ fn the_rule_opcode_by_opcode() {
             0x02 | 0x04 | 0x18 | 0x30 | 0x31 | 0x32 => [true; 4],
             0x10..=0x14 => [true; 4],
             0x16 | 0x17 => [false, false, true, true],
-            0x20..=0x22 | 0x24 => [false, false, false, true],
+            0x20..=0x22 | 0x24 | 0x40..=0x42 => [false, false, false, true],
             0x01 | 0x03 | 0x15 | 0x23 => [false; 4],
             _ => panic!("{opcode:x} is no opcode"),
         };

@@ -11,7 +11,7 @@ use estrenwind_tests::reference::{short, whole, BINARY64};
 
 /// "10 to 18 and 20 to 22 take doubles, 23 a double A and a whole B, 30 to 32 wholes. 10 to 18 and
 /// 32 use A; 20 to 23, 30 and 31 use A and B; inputs use P and Q, constants P." W-204: "Recipe step 24
-/// takes two doubles."
+/// takes two doubles." W-208: "steps 40 add, 41 subtract, 42 multiply on doubles".
 #[test]
 fn steps_use_the_fields_that_document_01_says() {
     for operation in &OPERATIONS {
@@ -19,7 +19,7 @@ fn steps_use_the_fields_that_document_01_says() {
             0x01 | 0x02 => (&[], [false, false, true, true]),
             0x03 | 0x04 => (&[], [false, false, true, false]),
             0x10..=0x18 => (&[Double], [true, false, false, false]),
-            0x20..=0x22 | 0x24 => (&[Double, Double], [true, true, false, false]),
+            0x20..=0x22 | 0x24 | 0x40..=0x42 => (&[Double, Double], [true, true, false, false]),
             0x23 => (&[Double, Whole], [true, true, false, false]),
             0x30 | 0x31 => (&[Whole, Whole], [true, true, false, false]),
             0x32 => (&[Whole], [true, false, false, false]),
@@ -39,10 +39,14 @@ fn steps_use_the_fields_that_document_01_says() {
 /// "Opcodes 02, 04, 18, 30 and 31 give whole numbers, every other one doubles."
 #[test]
 fn steps_give_the_kinds_that_document_01_says() {
-    let opcodes: Vec<u8> = [0x01..=0x04, 0x10..=0x18, 0x20..=0x24, 0x30..=0x32]
-        .into_iter()
-        .flatten()
-        .collect();
+    let rows = [
+        0x01..=0x04,
+        0x10..=0x18,
+        0x20..=0x24,
+        0x30..=0x32,
+        0x40..=0x42,
+    ];
+    let opcodes: Vec<u8> = rows.into_iter().flatten().collect();
     for opcode in 0..=255 {
         let kind = Operation::of_opcode(opcode).map(|operation| operation.kind);
         let whole = [0x02, 0x04, 0x18, 0x30, 0x31].contains(&opcode);

@@ -6,7 +6,9 @@ use estrenwind_tests::patterns::Random;
 use estrenwind_tests::recipes::growing::{grow, grow_marked, grow_sheet};
 use estrenwind_tests::recipes::shown::is_finite_and_integral;
 use estrenwind_tests::recipes::{frame, SheetCall};
-use estrenwind_tests::reference::recipe::{run, sheet, Kind, Range, StepRange, Way, OPERATIONS};
+use estrenwind_tests::reference::recipe::{
+    ranges, run, sheet, Kind, Operation, Range, StepRange, Way, OPERATIONS,
+};
 use estrenwind_tests::reference::BINARY64;
 
 /// A range of up to seven numbers, and all of their words: of the zeros both. It starts near a
@@ -169,6 +171,62 @@ fn lines_are_as_document_01_and_w_203_say() {
         bytes[39 * 127..],
         *b"7f0201fffffffffffffffefffffffffffffffe\n"
     );
+}
+
+/// "21 for an infinite result (sheet: any end sum, difference or product)": where any of the four end
+/// products is infinite, and no end is, the fmin or the fmax of the four is too. So it is all the same
+/// whether the products are asked or the ends of the range.
+#[test]
+fn an_infinite_product_is_an_end() {
+    let mut random = Random::new(0x514);
+    let multiply = Operation::of_opcode(0x42).unwrap();
+    let (mut infinite, mut finite) = (0, 0);
+    for _ in 0..200_000 {
+        let [a, b] = random.operands(multiply, false);
+        let ends = |range: Range| [range.low, range.high].map(f64::from_bits);
+        let ([a_low, a_high], [b_low, b_high]) = (ends(a), ends(b));
+        if [a_low, a_high, b_low, b_high]
+            .iter()
+            .any(|end| end.is_infinite())
+        {
+            continue;
+        }
+        let products = [
+            a_low * b_low,
+            a_low * b_high,
+            a_high * b_low,
+            a_high * b_high,
+        ];
+        let any = products.iter().any(|product| product.is_infinite());
+        let low = products.into_iter().fold(f64::INFINITY, f64::min);
+        let high = products.into_iter().fold(f64::NEG_INFINITY, f64::max);
+        assert_eq!(any, low.is_infinite() || high.is_infinite(), "{products:?}");
+        let range = multiply.function().unwrap().range(Way::Exact, a, b);
+        assert_eq!(range.err(), any.then_some(21), "{products:?}");
+        infinite += any as u64;
+        finite += !any as u64;
+    }
+    assert!(infinite > 10_000 && finite > 10_000, "{infinite} {finite}");
+}
+
+/// W-202's order makes the fmin and the fmax of four numbers the same in whichever order they come.
+#[test]
+fn the_order_of_the_four_products_does_not_matter() {
+    let numbers: [u64; 4] = [0, 1 << 63, 1, 1 << 63 | 1];
+    for w in numbers {
+        for x in numbers {
+            for y in numbers {
+                for z in numbers {
+                    let expected = ranges::least_and_greatest(Way::Exact, &[w, x, y, z]);
+                    for order in [[z, y, x, w], [x, w, z, y], [y, z, w, x]] {
+                        for way in [Way::Exact, Way::Short] {
+                            assert_eq!(ranges::least_and_greatest(way, &order), expected);
+                        }
+                    }
+                }
+            }
+        }
+    }
 }
 
 #[test]

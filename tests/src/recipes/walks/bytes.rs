@@ -20,7 +20,10 @@ pub fn of_every_sort() -> Draft {
             Line::step(0x30, 3, 1),
             Line::step(0x32, 7, 0),
             Line::step(0x24, 8, 2),
-            Line::step(0x18, 9, 0),
+            Line::step(0x40, 9, 2),
+            Line::step(0x41, 10, 8),
+            Line::step(0x42, 11, 5),
+            Line::step(0x18, 12, 0),
         ],
         words: vec![0xbff8000000000000, 4],
     }

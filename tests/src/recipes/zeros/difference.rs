@@ -7,7 +7,10 @@ use crate::reference::BINARY64;
 /// Document 01's rule, and W-202's.
 const RULES: [Way; 2] = [Way::FirstOfEqual, Way::Short];
 
+/// The steps that have an end from another end of an operand.
 const NEGATE: u8 = 0x17;
+const SUBTRACT: u8 = 0x41;
+const MULTIPLY: u8 = 0x42;
 
 /// What of a step is held together: its word in a run, or an end of its range on the sheet.
 #[derive(Clone, Copy, Debug, PartialEq, Eq, PartialOrd, Ord)]
@@ -132,22 +135,32 @@ fn expect_same_marks([before, now]: [Vec<bool>; 2]) -> Result<(), String> {
     }
 }
 
-/// One part of every step by both rules. A step has it from the same part of its operands, negate
-/// from theirs in `negated`: a low end is a high one negated.
+/// One part of every step by both rules. A step has it from the same part of its operands; negate from
+/// theirs in `others`, since a low end is a high one negated, subtract from A's and from B's in
+/// `others`, multiply from all.
 fn column(
     steps: &[Step],
     part: Part,
     words: &[[u64; 2]],
-    negated: &[[u64; 2]],
+    others: &[[u64; 2]],
 ) -> Result<Vec<Shown>, String> {
     let of_step = |(step, line): (usize, &Step)| {
         let opcode = line.operation.opcode;
-        let from = if opcode == NEGATE { negated } else { words };
-        let differs = |used: bool, place: usize| used && from[place][0] != from[place][1];
-        let operand_differs =
-            differs(line.operation.uses_a(), line.a) || differs(line.operation.uses_b(), line.b);
+        let both = [words, others];
+        let (same, other) = both.split_at(1);
+        let [from_a, from_b] = match opcode {
+            NEGATE => [other; 2],
+            SUBTRACT => [same, other],
+            MULTIPLY => [&both[..]; 2],
+            _ => [same; 2],
+        };
+        let differs = |used: bool, from: &[&[[u64; 2]]], place: usize| {
+            used && from.iter().any(|from| from[place][0] != from[place][1])
+        };
+        let operand_differs = differs(line.operation.uses_a(), from_a, line.a)
+            || differs(line.operation.uses_b(), from_b, line.b);
         let words = words[step];
-        let fate = fate(line.operation, words, operand_differs)
+        let fate = fate(line.operation, part, words, operand_differs)
             .map_err(|wrong| format!("step {step}, {part:?}, {words:016x?}: {wrong}"))?;
         Ok(Shown {
             step,
@@ -163,6 +176,7 @@ fn column(
 /// What becomes of a zero's sign at a step with this outcome by both rules, or what is wrong.
 fn fate(
     operation: &Operation,
+    part: Part,
     words: [u64; 2],
     operand_differs: bool,
 ) -> Result<Option<Fate>, &'static str> {
@@ -177,6 +191,8 @@ fn fate(
     match operation.opcode {
         _ if operand_differs => Ok(Some(Fate::HandedOn)),
         0x20 | 0x21 => Ok(Some(Fate::ChosenHere)),
+        // Its range is "the fmin and the fmax of the four end products".
+        MULTIPLY if part != Part::Word => Ok(Some(Fate::ChosenHere)),
         _ => Err("the sign doesn't come from fmin or fmax"),
     }
 }
@@ -187,9 +203,18 @@ mod tests {
 
     const MINUS: u64 = 1 << 63;
 
-    fn fate_of(opcode: u8, words: [u64; 2], operand_differs: bool) -> Result<Option<Fate>, ()> {
+    fn fate_in(
+        part: Part,
+        opcode: u8,
+        words: [u64; 2],
+        operand_differs: bool,
+    ) -> Result<Option<Fate>, ()> {
         let operation = Operation::of_opcode(opcode).unwrap();
-        fate(operation, words, operand_differs).map_err(|_| ())
+        fate(operation, part, words, operand_differs).map_err(|_| ())
+    }
+
+    fn fate_of(opcode: u8, words: [u64; 2], operand_differs: bool) -> Result<Option<Fate>, ()> {
+        fate_in(Part::Word, opcode, words, operand_differs)
     }
 
     /// A check that found nothing wrong would let every rule pass.
@@ -201,13 +226,23 @@ mod tests {
             assert_eq!(fate_of(opcode, [MINUS, 0], false), chosen);
             assert_eq!(fate_of(opcode, [MINUS, 0], true), Ok(Some(Fate::HandedOn)));
         }
-        for opcode in [0x01, 0x03, 0x10, 0x17, 0x22, 0x23, 0x24, 0x32] {
+        for opcode in [
+            0x01, 0x03, 0x10, 0x17, 0x22, 0x23, 0x24, 0x32, 0x40, 0x41, 0x42,
+        ] {
             assert_eq!(fate_of(opcode, [0, MINUS], false), Err(()));
             assert_eq!(fate_of(opcode, [0, MINUS], true), Ok(Some(Fate::HandedOn)));
         }
         for opcode in [0x10, 0x18, 0x20, 0x30] {
             assert_eq!(fate_of(opcode, [MINUS; 2], false), Ok(None));
             assert_eq!(fate_of(opcode, [7, 7], true), Ok(Some(Fate::Ended)));
+        }
+        // A product's ends are chosen, but not its word; a sum's ends are not.
+        for part in [Part::Low, Part::High] {
+            let chosen = Ok(Some(Fate::ChosenHere));
+            assert_eq!(fate_in(part, MULTIPLY, [0, MINUS], false), chosen);
+            assert_eq!(fate_in(part, MULTIPLY, [0, 1], false), Err(()));
+            assert_eq!(fate_in(part, 0x40, [0, MINUS], false), Err(()));
+            assert_eq!(fate_in(part, SUBTRACT, [0, MINUS], false), Err(()));
         }
         // Another number, the same number negated, a whole number.
         for words in [[0, 1], [MINUS | 1, MINUS], [1, MINUS | 1]] {
@@ -245,6 +280,33 @@ mod tests {
         assert_eq!(fates(&highs, &lows), Ok(expected));
         // From the same end there is nothing that the negated one could come from.
         assert!(fates(&highs, &highs).is_err());
+    }
+
+    /// Subtract's low end comes from B's high one; a product's from all.
+    #[test]
+    fn a_difference_and_a_product_have_their_ends_from_others() {
+        // Two zeros, fmin, then a step on it.
+        let same = |word: u64| [word; 2];
+        let lows = |last| [same(0), same(MINUS), [0, MINUS], last];
+        let highs = |last| [same(0), same(MINUS), same(0), last];
+        for (line, from_low, from_high) in [
+            ("400002", true, false),
+            ("400200", true, false),
+            ("410200", true, false),
+            ("410002", false, true),
+            ("420002", true, true),
+        ] {
+            let steps = steps(&["03", "0300008", "200001", line]);
+            for (part, words, others, expected) in [
+                (Part::Low, lows([0, MINUS]), highs(same(0)), from_low),
+                (Part::High, highs([0, MINUS]), lows(same(0)), from_high),
+            ] {
+                let shown = column(&steps, part, &words, &others);
+                let fate = shown.map(|shown| shown[3].fate);
+                let handed_on = Ok(Some(Fate::HandedOn));
+                assert_eq!(fate == handed_on, expected, "{line} {part:?}: {fate:?}");
+            }
+        }
     }
 
     #[test]

@@ -59,13 +59,15 @@ impl Random {
         Draft { lines, words }
     }
 
-    /// A step on these, fmin or fmax in half of the cases.
+    /// A step on these, fmin or fmax in half of the cases, a sum, difference or product in an eighth.
     fn step_on(&mut self, lines: &[Line]) -> Line {
         let steps: Vec<&Operation> = OPERATIONS.iter().filter(|step| step.uses_a()).collect();
-        let operation = match self.below(2) {
-            0 => self.one_of(&steps),
-            _ => Operation::of_opcode(0x20 + self.below(2) as u8).expect("fmin or fmax"),
+        let opcode = match self.below(8) {
+            0..=2 => self.one_of(&steps).opcode,
+            3 => 0x40 + self.below(3) as u8,
+            _ => 0x20 + self.below(2) as u8,
         };
+        let operation = Operation::of_opcode(opcode).expect("an opcode");
         let kinds = operation.source.operands();
         let mut places = [0; 2];
         for (place, &kind) in places.iter_mut().zip(&kinds) {

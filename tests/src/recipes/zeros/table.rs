@@ -29,6 +29,9 @@ pub fn name(opcode: u8) -> &'static str {
         0x30 => "whole A+B",
         0x31 => "whole A-B",
         0x32 => "whole to double",
+        0x40 => "add",
+        0x41 => "subtract",
+        0x42 => "multiply",
         _ => panic!("{opcode:x} is no opcode"),
     }
 }
