@@ -1,4 +1,5 @@
-//! Links libestrenwind.a from the folder in ESTRENWIND_LIB_DIR, or from ../build.
+//! Links libestrenwind.a from the folder in ESTRENWIND_LIB_DIR, or from ../build. The archive
+//! libcross_check.a beside it is linked by the one test that needs it.
 
 use std::env;
 use std::path::PathBuf;
@@ -15,6 +16,10 @@ fn main() {
     });
     let folder = archive.parent().expect("a file lies in a folder");
     println!("cargo::rerun-if-changed={}", archive.display());
+    let cross_check = folder.join("libcross_check.a");
+    if cross_check.exists() {
+        println!("cargo::rerun-if-changed={}", cross_check.display());
+    }
     println!("cargo::rustc-link-search=native={}", folder.display());
     println!("cargo::rustc-link-lib=static=estrenwind");
 }
