@@ -177,13 +177,13 @@ impl Random {
         [field, other].map(|field| self.in_field(format, field as u64))
     }
 
-    /// Odd significands whose product has one digit more than a fraction and its leading one, or about
-    /// so many.
+    /// Factors whose product is a tie, or lies right beside one.
     fn factors_at_a_tie(&mut self, format: &Format) -> [u64; 2] {
         let all_digits = format.fraction_bits + 1;
-        let of_x = 1 + self.below(all_digits as u64) as u32;
-        let of_y = (all_digits + 2 - of_x - self.below(2) as u32).clamp(1, all_digits);
-        let [a, b] = [of_x, of_y].map(|digits| self.of_digits(digits) | 1);
+        let [a, b] = match self.below(2) {
+            0 => self.short_significands(format),
+            _ => self.significands_beside_a_tie(format),
+        };
         // Moved to a product of any exponent that is normal.
         let one = format.one_log2();
         let product = self.below(format.infinity_log2() as u64 - 3 * all_digits as u64) as u32;
@@ -192,6 +192,28 @@ impl Random {
         let least = total.saturating_sub(room);
         let places = least + self.below((total.min(room) - least) as u64 + 1) as u32;
         [pack(format, a, places), pack(format, b, total - places)]
+    }
+
+    /// Odd significands whose product has one digit more than a fraction and its leading one, which is a
+    /// tie, or about so many.
+    fn short_significands(&mut self, format: &Format) -> [u64; 2] {
+        let all_digits = format.fraction_bits + 1;
+        let of_x = 1 + self.below(all_digits as u64) as u32;
+        let of_y = (all_digits + 2 - of_x - self.below(2) as u32).clamp(1, all_digits);
+        [of_x, of_y].map(|digits| self.of_digits(digits) | 1)
+    }
+
+    /// Significands with all their digits, and a product whose last half is about a half: the digit that
+    /// tells on which side it lies is one of the last. Found backwards: modulo 2^k, where k digits fall
+    /// off, an odd a has an inverse.
+    fn significands_beside_a_tie(&mut self, format: &Format) -> [u64; 2] {
+        let digits = format.fraction_bits + 1;
+        let a = self.of_digits(digits) | 1;
+        let falling_off = digits - self.below(2) as u32;
+        let half = 1u64 << (falling_off - 1);
+        let rest = half.wrapping_add_signed(self.within(-3..4));
+        let b = rest.wrapping_mul(inverse(a)) % (2 * half);
+        [a, b | 1 << format.fraction_bits]
     }
 
     /// Factors whose product is subnormal, or too small for that: few digits, where ties are, or all.
@@ -246,6 +268,14 @@ impl Random {
         let places = least + self.below((room - least) as u64 + 1) as u32;
         [pack(format, a, places), pack(format, b, total - places)]
     }
+}
+
+/// The inverse of an odd number modulo 2^64. Each round doubles the digits that are right, which are
+/// three at first.
+fn inverse(a: u64) -> u64 {
+    (0..5).fold(a, |inverse, _| {
+        inverse.wrapping_mul(2u64.wrapping_sub(a.wrapping_mul(inverse)))
+    })
 }
 
 /// What an addition or a multiplication of finite numbers is. One may be of several sorts.
