@@ -209,6 +209,15 @@ impl Random {
         }
     }
 
+    /// The ends of a range from this finite double or to it, of few numbers or of many, or of it alone.
+    pub fn range_from(&mut self, word: u64) -> [u64; 2] {
+        let one = rank(Kind::Double, word);
+        let most = BINARY64.infinity() as i64 - 1;
+        let apart = self.within(-4..5) << self.below(54);
+        let another = one.saturating_add(apart).clamp(-most, most);
+        [one.min(another), one.max(another)].map(|rank| self.of_rank(Kind::Double, rank))
+    }
+
     /// The ends of an input's range: equal, neighbours, anything to anything, to infinity.
     pub fn range(&mut self, kind: Kind) -> [u64; 2] {
         let [lowest, highest] = match kind {

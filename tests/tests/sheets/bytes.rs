@@ -35,7 +35,7 @@ fn the_last_of_128_steps_on_every_other() {
             draft.lines[127] = Line::step(opcode, operand, 0);
             passed += (check(Way::Short, &draft.sheet_call()).answer.refusal == 0) as u64;
         }
-        for opcode in [0x20, 0x23, 0x24, 0x30, 0x31] {
+        for opcode in [0x20, 0x23, 0x24, 0x30, 0x31, 0x40, 0x41, 0x42] {
             draft.lines[127] = Line::step(opcode, 0, operand);
             check(Way::Short, &draft.sheet_call());
             draft.lines[127] = Line::step(opcode, operand, 3);

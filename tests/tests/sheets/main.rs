@@ -12,6 +12,7 @@ mod paper;
 mod promise;
 mod ranges;
 mod wrong_ranges;
+mod wrong_sums;
 
 use estrenwind_tests::recipes::comparison::Outcome;
 use estrenwind_tests::recipes::shown::{self, Shown};

@@ -4,7 +4,8 @@
 //! > 10 to 14 when both ends are finite. fabs and negate keep the mark; fmin, fmax and fmod have it
 //! > when both operands do; all others lack it.
 //!
-//! Step 24 came after it: "marked when both operands are" (W-204).
+//! Step 24 came after it, "marked when both operands are" (W-204), and so did steps 40 to 42, "marked when
+//! both operands are" (W-208).
 //!
 //! `declared` has inputs and constants, `steps` every other row of the rule, `chains` recipes of 128
 //! steps. `agreement` holds the library's sheets to the reference's on recipes with many marks, and

@@ -116,6 +116,52 @@ fn the_nearest_remainder() {
     );
 }
 
+/// From 0 to 1 and from -2 to 3: their sum, the difference, the product, its square by itself, and the
+/// floors of both added: the same with the mark.
+const SUMS: &str = "\
+01000000000000000000003ff0000000000000
+010000c0000000000000004008000000000000
+40000100000000000000000000000000000000
+41000100000000000000000000000000000000
+42000100000000000000000000000000000000
+42010100000000000000000000000000000000
+10000000000000000000000000000000000000
+10010000000000000000000000000000000000
+40060700000000000000000000000000000000
+41060700000000000000000000000000000000
+42060700000000000000000000000000000000
+40060100000000000000000000000000000000
+";
+
+/// -2 to 4, -3 to 3, -2 to 3, -6 to 9.
+const SUMS_SHEET: &str = "\
+00010000000000000000003ff0000000000000
+010100c0000000000000004008000000000000
+020100c0000000000000004010000000000000
+030100c0080000000000004008000000000000
+040100c0000000000000004008000000000000
+050100c0180000000000004022000000000000
+06010100000000000000003ff0000000000000
+070101c0000000000000004008000000000000
+080101c0000000000000004010000000000000
+090101c0080000000000004008000000000000
+0a0101c0000000000000004008000000000000
+0b0100c0000000000000004010000000000000
+";
+
+/// W-208: "add low+low to high+high; subtract low-high to high-low; multiply the fmin and the fmax of the
+/// four end products. Marked when both operands are."
+#[test]
+fn sums_differences_and_products() {
+    let outcome = check(Way::Exact, &call(SUMS));
+    assert_eq!(outcome.answer, passed(12));
+    let shown = &outcome.memory[BEFORE..][..SUMS_SHEET.len()];
+    assert_eq!(
+        shown.escape_ascii().to_string(),
+        SUMS_SHEET.escape_default().to_string()
+    );
+}
+
 /// Each row breaks one rule of "Turning text down" and keeps to all before it, many of them also
 /// break a later one. The answers are read off document 01, not off the reference.
 #[test]
@@ -124,6 +170,7 @@ fn what_is_turned_down_and_with_which_number() {
     const FULL: &str = "010000fff00000000000007ff0000000000000\n"; // any double
     const WHOLE: &str = "02000080000000000000007fffffffffffffff\n"; // any whole number
     const SMALL: &str = "010000bff00000000000003ff0000000000000\n"; // -1 to 1
+    const LARGE: &str = "010000ffefffffffffffff7fefffffffffffff\n"; // any finite double
     const NEXT: &str = "10000000000000000000000000000000000000\n"; // floor of step 0
     let full16 = FULL.repeat(16);
     for (text, answer) in [
@@ -143,6 +190,12 @@ fn what_is_turned_down_and_with_which_number() {
         ("24000000000000000000000000000000000000\n", refused(14, 0)),              // a step, of itself
         ("25000000000000000000000000000000000000\n", refused(12, 0)),
         ("33000000000000000000000000000000000000\n", refused(12, 0)),
+        ("3f000000000000000000000000000000000000\n", refused(12, 0)),
+        ("40000000000000000000000000000000000000\n", refused(14, 0)),              // a step, of itself
+        ("41000000000000000000000000000000000000\n", refused(14, 0)),
+        ("42000000000000000000000000000000000000\n", refused(14, 0)),
+        ("43000000000000000000000000000000000000\n", refused(12, 0)),
+        ("4f000000000000000000000000000000000000\n", refused(12, 0)),
         ("10ff0000000000000000010000000000000000\n", refused(13, 0)),              // 13 before 14
         ("10000100000000000000000000000000000000\n", refused(13, 0)),
         ("0101007ff80000000000000000000000000000\n", refused(13, 0)),              // 13 before 16
@@ -181,6 +234,23 @@ fn what_is_turned_down_and_with_which_number() {
         (&format!("{WHOLE}{SMALL}240001{:032}\n", 0), refused(15, 2)),
         (&format!("{SMALL}{WHOLE}240001{:032}\n", 0), refused(15, 2)),
         (&format!("{SMALL}{SMALL}240001{:031}1\n", 0), refused(13, 2)),
+        (&format!("{SMALL}{SMALL}400001{:032}\n", 0), passed(3)),
+        (&format!("{SMALL}{FULL}400001{:032}\n", 0), refused(20, 2)),              // infinite ends of b
+        (&format!("{FULL}{SMALL}410001{:032}\n", 0), refused(20, 2)),              // of a
+        (&format!("{FULL}420000{:032}\n", 0), refused(20, 1)),
+        (&format!("{LARGE}400000{:032}\n", 0), refused(21, 1)),                    // both ends overflow
+        (&format!("{LARGE}410000{:032}\n", 0), refused(21, 1)),
+        (&format!("{LARGE}420000{:032}\n", 0), refused(21, 1)),
+        (&format!("{LARGE}{SMALL}400001{:032}\n", 0), passed(3)),                  // MAX + 1 is MAX
+        (&format!("{LARGE}{SMALL}420001{:032}\n", 0), passed(3)),
+        (&format!("{LARGE}{FULL}400001{:032}\n", 0), refused(20, 2)),              // 20 before 21
+        (&format!("{LARGE}400000{:032}\n{FULL}400202{:032}\n", 0, 0), refused(21, 1)), // 21 at an earlier step
+        (&format!("{SMALL}{WHOLE}400001{:032}\n", 0), refused(15, 2)),
+        (&format!("{WHOLE}{SMALL}410001{:032}\n", 0), refused(15, 2)),
+        (&format!("{SMALL}{WHOLE}420001{:032}\n", 0), refused(15, 2)),
+        (&format!("{SMALL}{SMALL}400001{:031}1\n", 0), refused(13, 2)),
+        (&format!("{SMALL}{SMALL}4200018000000000000000{:016}\n", 0), refused(13, 2)),
+        (&format!("{SMALL}{SMALL}410002{:032}\n", 0), refused(14, 2)),
         (&format!("{FULL}1800{:034}\n220000{:032}\n", 0, 0), refused(21, 1)),      // 21 at an earlier step
         (&format!("{FULL}220000{:032}\n1800{:034}\n", 0, 0), refused(20, 1)),      // 20 at one
         (&format!("{WHOLE}3200{:034}\n300000{:032}\n", 0, 0), refused(22, 1)),     // 22 at one

@@ -10,9 +10,10 @@ use estrenwind_tests::recipes::growing::{grow, grow_marked, grow_sheet};
 use estrenwind_tests::recipes::shown::{is_finite_and_integral, read, Shown};
 use estrenwind_tests::recipes::{frame, Draft, Line};
 use estrenwind_tests::reference::recipe::{text, Kind, Operation, OPERATIONS};
+use estrenwind_tests::reference::BINARY64;
 use std::collections::BTreeMap;
 
-const SEEDS: u64 = 2_400;
+const SEEDS: u64 = 3_000;
 
 /// Frames that are drawn for a recipe with inputs.
 const FRAMES: usize = 20;
@@ -137,6 +138,8 @@ struct Counts {
     passed: u64,
     refused: u64,
     runs: u64,
+    /// Runs of recipes with a sum, a difference or a product of doubles.
+    with_sums: u64,
     prefixes: u64,
     words: BTreeMap<(u8, bool, Lie), u64>,
     inputs: BTreeMap<(u8, Sort), u64>,
@@ -147,6 +150,7 @@ impl Counts {
         self.passed += other.passed;
         self.refused += other.refused;
         self.runs += other.runs;
+        self.with_sums += other.with_sums;
         self.prefixes += other.prefixes;
         for (lie, count) in other.words {
             *self.words.entry(lie).or_default() += count;
@@ -167,7 +171,8 @@ impl Counts {
 }
 
 /// The recipes of a seed: grown along ranges, with few marks and with many, with and without a step
-/// that the sheet is to refuse; grown along a frame, where it may; and each step on inputs.
+/// that the sheet is to refuse; grown along a frame, where it may; each step on inputs; and sums,
+/// differences and products on ranges at the numbers where these are hard.
 fn recipes(random: &mut Random) -> Vec<Draft> {
     let mut drafts = Vec::new();
     for grow in [grow_sheet, grow_marked] {
@@ -187,7 +192,25 @@ fn recipes(random: &mut Random) -> Vec<Draft> {
     }
     let steps = OPERATIONS.iter().filter(|operation| operation.uses_a());
     drafts.extend(steps.map(|operation| on_inputs(random, operation)));
+    for opcode in [0x40, 0x41, 0x42].repeat(4) {
+        drafts.push(on_summands(random, opcode));
+    }
     drafts
+}
+
+/// A sum, a difference or a product, on inputs whose ranges begin or end where digits cancel, at a tie,
+/// or about the smallest and the largest numbers; and the next such step on that.
+fn on_summands(random: &mut Random, opcode: u8) -> Draft {
+    let [x, y] = random.finite_pair(&BINARY64);
+    let [x, y] = [x, y].map(|word| random.range_from(word));
+    let mut lines = [x, y].map(|ends| Line::input(Kind::Double, ends)).to_vec();
+    lines.push(Line::step(opcode, 0, 1));
+    if random.below(2) == 0 {
+        let next = 0x40 + random.below(3) as u8;
+        lines.push(Line::step(next, 2, random.below(2) as usize));
+    }
+    let words = vec![x[0], y[0]];
+    Draft { lines, words }
 }
 
 /// The step on inputs of moderate ranges.
@@ -244,8 +267,11 @@ fn check(random: &mut Random, draft: &Draft, counts: &mut Counts) -> Option<Stri
         ))
     };
     let mut words = vec![0; shown.len()];
+    let is_sum = |line: &Line| (0x40..=0x42).contains(&line.opcode);
+    let has_sum = draft.lines.iter().any(is_sum);
     for (number, inputs) in frames(random, draft).into_iter().enumerate() {
         counts.runs += 1;
+        counts.with_sums += has_sum as u64;
         let answer = library::run(text, &frame(&inputs), &mut words);
         let expected = RunAnswer {
             refusal: 0,
@@ -304,7 +330,8 @@ fn every_run_of_a_passed_sheet_completes_in_its_ranges() {
     let (passed, refused) = (counts.passed, counts.refused);
     println!("{passed} sheets passed, {refused} refused");
     println!("{} runs, {} up to a step", counts.runs, counts.prefixes);
-    assert!(counts.runs >= 1_000_000, "{} runs", counts.runs);
+    println!("{} runs with steps 40 to 42", counts.with_sums);
+    assert!(counts.with_sums >= 1_000_000, "{}", counts.with_sums);
     assert!(counts.prefixes >= 20_000, "{} prefixes", counts.prefixes);
 
     // Of each step, with the mark and without where it can be so, words at either end and between

@@ -423,6 +423,211 @@ fn sums_and_differences() {
     }
 }
 
+/// Ranges of a and b, and what a step of doubles makes of them: W-208's range, or the refusal.
+pub type Row = ([f64; 2], [f64; 2], Result<[f64; 2], u64>);
+
+/// Half of the largest number's last place, 2^970: MAX and so much is the first that is rounded to infinity.
+const EDGE: f64 = f64::from_bits((970 + 1023) << 52);
+const BELOW_EDGE: f64 = f64::from_bits(((970 + 1023) << 52) - 1);
+/// 2^-53, half of the last place of 1, and 2^-54, half of the last place below 1.
+const HALF_PLACE: f64 = f64::EPSILON / 2.0;
+const QUARTER_PLACE: f64 = f64::EPSILON / 4.0;
+/// 2^512, whose square is beyond the largest.
+const ROOT: f64 = f64::from_bits((512 + 1023) << 52);
+
+/// "add low+low to high+high". "Refusals: 20 for an infinite operand (sheet: infinite end), then 21 for
+/// an infinite result (sheet: any end sum, difference or product)."
+#[rustfmt::skip]
+pub const ADD: &[Row] = &[
+    ([1.0, 2.0],     [10.0, 20.0],   Ok([11.0, 22.0])),
+    ([-2.0, 5.0],    [-1.0, 3.0],    Ok([-3.0, 8.0])),
+    ([-5.0, -2.0],   [-3.0, -1.0],   Ok([-8.0, -3.0])),
+    ([-5.0, 2.0],    [1.0, 3.0],     Ok([-4.0, 5.0])),
+    ([1.0, 1.0],     [-0.0, 0.0],    Ok([1.0, 1.0])),
+    // A zero is +0, but for -0 + -0.
+    ([-1.0, 1.0],    [1.0, 1.0],     Ok([0.0, 2.0])),
+    ([-1.0, 1.0],    [-1.0, -1.0],   Ok([-2.0, 0.0])),
+    ([0.0, 0.0],     [-0.0, -0.0],   Ok([0.0, 0.0])),
+    ([-0.0, -0.0],   [0.0, 0.0],     Ok([0.0, 0.0])),
+    ([-0.0, -0.0],   [-0.0, -0.0],   Ok([-0.0, -0.0])),
+    ([-0.0, 0.0],    [-0.0, 0.0],    Ok([-0.0, 0.0])),
+    ([0.0, -0.0],    [-0.0, 0.0],    Ok([0.0, 0.0])),
+    ([0.0, -0.0],    [0.0, -0.0],    Ok([0.0, -0.0])),
+    ([-MAX, -MAX],   [MAX, MAX],     Ok([0.0, 0.0])),
+    ([TINY, TINY],   [-TINY, TINY],  Ok([0.0, 2.0 * TINY])),
+    // Rounded once, halves to even.
+    ([1.0, 1.0],     [HALF_PLACE, f64::EPSILON], Ok([1.0, ABOVE])),
+    ([ABOVE, ABOVE], [HALF_PLACE, HALF_PLACE], Ok([1.0 + 2.0 * f64::EPSILON, 1.0 + 2.0 * f64::EPSILON])),
+    ([1.0, 1.0],     [-HALF_PLACE, -QUARTER_PLACE], Ok([BELOW, 1.0])),
+    ([1.0, 1.0],     [-TINY, TINY],  Ok([1.0, 1.0])),
+    // Overflow, of either end.
+    ([0.0, MAX],     [0.0, BELOW_EDGE], Ok([0.0, MAX])),
+    ([0.0, MAX],     [0.0, EDGE],    Err(21)),
+    ([-MAX, 0.0],    [-BELOW_EDGE, 0.0], Ok([-MAX, 0.0])),
+    ([-MAX, 0.0],    [-EDGE, 0.0],   Err(21)),
+    ([-MAX, 1.0],    [-MAX, 1.0],    Err(21)),
+    ([-1.0, MAX],    [-1.0, MAX],    Err(21)),
+    ([-MAX, MAX],    [-MAX, MAX],    Err(21)),
+    ([MAX, MAX],     [MAX, MAX],     Err(21)),
+    // An infinite end, each alone, and both of one sort.
+    ([-INF, 1.0],    [0.0, 0.0],     Err(20)),
+    ([1.0, INF],     [0.0, 0.0],     Err(20)),
+    ([0.0, 0.0],     [-INF, 1.0],    Err(20)),
+    ([0.0, 0.0],     [1.0, INF],     Err(20)),
+    ([INF, INF],     [1.0, 1.0],     Err(20)),
+    ([-INF, -INF],   [INF, INF],     Err(20)),
+    // 20 before 21, whichever end it is at.
+    ([-MAX, INF],    [-MAX, 0.0],    Err(20)),
+    ([-INF, MAX],    [0.0, MAX],     Err(20)),
+    ([MAX, MAX],     [MAX, INF],     Err(20)),
+    ([-MAX, -MAX],   [-INF, -MAX],   Err(20)),
+];
+
+/// "subtract low-high to high-low". Refused as add is.
+#[rustfmt::skip]
+pub const SUBTRACT: &[Row] = &[
+    ([10.0, 20.0],   [1.0, 2.0],     Ok([8.0, 19.0])),
+    ([-2.0, 5.0],    [-1.0, 3.0],    Ok([-5.0, 6.0])),
+    ([1.0, 2.0],     [10.0, 20.0],   Ok([-19.0, -8.0])),
+    ([-5.0, -2.0],   [-3.0, -1.0],   Ok([-4.0, 1.0])),
+    ([-1.0, 1.0],    [-1.0, 1.0],    Ok([-2.0, 2.0])),
+    ([3.5, 3.5],     [3.5, 3.5],     Ok([0.0, 0.0])),
+    // A zero is +0, but for -0 - +0.
+    ([0.0, 0.0],     [0.0, 0.0],     Ok([0.0, 0.0])),
+    ([0.0, 0.0],     [-0.0, -0.0],   Ok([0.0, 0.0])),
+    ([-0.0, -0.0],   [-0.0, -0.0],   Ok([0.0, 0.0])),
+    ([-0.0, -0.0],   [0.0, 0.0],     Ok([-0.0, -0.0])),
+    ([-0.0, 0.0],    [-0.0, 0.0],    Ok([-0.0, 0.0])),
+    ([-0.0, -0.0],   [-0.0, 0.0],    Ok([-0.0, 0.0])),
+    ([-0.0, -0.0],   [0.0, -0.0],    Ok([0.0, -0.0])),
+    ([MAX, MAX],     [MAX, MAX],     Ok([0.0, 0.0])),
+    ([-TINY, TINY],  [TINY, TINY],   Ok([-2.0 * TINY, 0.0])),
+    // Rounded once, halves to even.
+    ([1.0, 1.0],     [QUARTER_PLACE, HALF_PLACE], Ok([BELOW, 1.0])),
+    ([1.0, 1.0],     [-f64::EPSILON, -HALF_PLACE], Ok([1.0, ABOVE])),
+    // Overflow, of either end.
+    ([0.0, MAX],     [-BELOW_EDGE, 0.0], Ok([0.0, MAX])),
+    ([0.0, MAX],     [-EDGE, 0.0],   Err(21)),
+    ([-MAX, 0.0],    [0.0, BELOW_EDGE], Ok([-MAX, 0.0])),
+    ([-MAX, 0.0],    [0.0, EDGE],    Err(21)),
+    ([-MAX, 0.0],    [0.0, MAX],     Err(21)),
+    ([0.0, MAX],     [-MAX, 0.0],    Err(21)),
+    ([-MAX, MAX],    [-MAX, MAX],    Err(21)),
+    // An infinite end, each alone, and both of one sort.
+    ([-INF, 1.0],    [0.0, 0.0],     Err(20)),
+    ([1.0, INF],     [0.0, 0.0],     Err(20)),
+    ([0.0, 0.0],     [-INF, 1.0],    Err(20)),
+    ([0.0, 0.0],     [1.0, INF],     Err(20)),
+    ([INF, INF],     [INF, INF],     Err(20)),
+    ([-INF, INF],    [-INF, INF],    Err(20)),
+    // 20 before 21, whichever end it is at.
+    ([-MAX, 0.0],    [-INF, MAX],    Err(20)),
+    ([-MAX, INF],    [0.0, MAX],     Err(20)),
+    ([0.0, MAX],     [-MAX, INF],    Err(20)),
+    ([-INF, MAX],    [-MAX, 0.0],    Err(20)),
+];
+
+/// "multiply the fmin and the fmax of the four end products". Refused as add is, 21 for any of the four.
+#[rustfmt::skip]
+pub const MULTIPLY: &[Row] = &[
+    // The signs of the ends tell which two of the four they are.
+    ([2.0, 3.0],     [4.0, 5.0],     Ok([8.0, 15.0])),
+    ([-3.0, -2.0],   [4.0, 5.0],     Ok([-15.0, -8.0])),
+    ([2.0, 3.0],     [-5.0, -4.0],   Ok([-15.0, -8.0])),
+    ([-3.0, -2.0],   [-5.0, -4.0],   Ok([8.0, 15.0])),
+    ([-2.0, 3.0],    [4.0, 5.0],     Ok([-10.0, 15.0])),
+    ([-2.0, 3.0],    [-5.0, -4.0],   Ok([-15.0, 10.0])),
+    ([2.0, 3.0],     [-5.0, 4.0],    Ok([-15.0, 12.0])),
+    ([-3.0, -2.0],   [-5.0, 4.0],    Ok([-12.0, 15.0])),
+    ([-2.0, 3.0],    [-5.0, 4.0],    Ok([-15.0, 12.0])),
+    ([-3.0, 2.0],    [-5.0, 4.0],    Ok([-12.0, 15.0])),
+    ([-3.0, 2.0],    [-4.0, 5.0],    Ok([-15.0, 12.0])),
+    ([-2.0, 3.0],    [-4.0, 5.0],    Ok([-12.0, 15.0])),
+    ([-1.5, 1.5],    [-1.5, 1.5],    Ok([-2.25, 2.25])),
+    // Zeros: -0 below +0, in whichever order they come (W-202).
+    ([0.0, 1.0],     [0.0, 1.0],     Ok([0.0, 1.0])),
+    ([0.0, 0.0],     [-1.0, 1.0],    Ok([-0.0, 0.0])),
+    ([-1.0, 1.0],    [0.0, 0.0],     Ok([-0.0, 0.0])),
+    ([-1.0, 1.0],    [-0.0, -0.0],   Ok([-0.0, 0.0])),
+    ([-1.0, 0.0],    [0.0, 1.0],     Ok([-1.0, 0.0])),
+    ([-1.0, -0.0],   [0.0, 1.0],     Ok([-1.0, -0.0])),
+    ([0.0, 1.0],     [-1.0, -0.0],   Ok([-1.0, -0.0])),
+    ([-0.0, -0.0],   [1.0, 2.0],     Ok([-0.0, -0.0])),
+    ([-0.0, -0.0],   [-2.0, -1.0],   Ok([0.0, 0.0])),
+    ([0.0, 0.0],     [-2.0, -1.0],   Ok([-0.0, -0.0])),
+    ([-0.0, 0.0],    [1.0, 2.0],     Ok([-0.0, 0.0])),
+    ([0.0, -0.0],    [1.0, 1.0],     Ok([-0.0, 0.0])),
+    ([-0.0, 0.0],    [-0.0, 0.0],    Ok([-0.0, 0.0])),
+    ([-0.0, -0.0],   [-0.0, -0.0],   Ok([0.0, 0.0])),
+    ([0.0, 0.0],     [MAX, MAX],     Ok([0.0, 0.0])),
+    // Rounded once, halves to even: too small is a zero of the product's sign.
+    ([TINY, TINY],   [0.5, 0.75],    Ok([0.0, TINY])),
+    ([-TINY, -TINY], [0.25, 0.5],    Ok([-0.0, -0.0])),
+    ([-TINY, TINY],  [0.5, 0.5],     Ok([-0.0, 0.0])),
+    ([3.0 * TINY, 3.0 * TINY], [0.5, 0.5], Ok([2.0 * TINY, 2.0 * TINY])),
+    ([TINY, TINY],   [TINY, TINY],   Ok([0.0, 0.0])),
+    ([1.5, 1.5],     [ABOVE, ABOVE], Ok([1.5 + 2.0 * f64::EPSILON, 1.5 + 2.0 * f64::EPSILON])),
+    ([BELOW, BELOW], [BELOW, BELOW], Ok([1.0 - f64::EPSILON, 1.0 - f64::EPSILON])),
+    // Overflow, of each of the four alone.
+    ([0.0, MAX],     [0.0, 1.0],     Ok([0.0, MAX])),
+    ([0.0, MAX],     [0.0, ABOVE],   Err(21)),
+    ([1.0, ROOT / 2.0], [1.0, ROOT], Ok([1.0, ROOT / 2.0 * ROOT])),
+    ([1.0, ROOT],    [1.0, ROOT],    Err(21)),
+    ([-ROOT, -1.0],  [-ROOT, -1.0],  Err(21)),
+    ([-ROOT, -1.0],  [1.0, ROOT],    Err(21)),
+    ([1.0, ROOT],    [-ROOT, -1.0],  Err(21)),
+    ([-ROOT, 1.0],   [1.0, ROOT],    Err(21)),
+    ([ROOT, ROOT],   [ROOT, ROOT],   Err(21)),
+    ([-ROOT, ROOT],  [-ROOT, ROOT],  Err(21)),
+    ([0.0, MAX],     [0.0, MAX],     Err(21)),
+    // An infinite end, each alone, and beside a zero.
+    ([-INF, 1.0],    [0.0, 0.0],     Err(20)),
+    ([1.0, INF],     [0.0, 0.0],     Err(20)),
+    ([0.0, 0.0],     [-INF, 1.0],    Err(20)),
+    ([0.0, 0.0],     [1.0, INF],     Err(20)),
+    ([1.0, 2.0],     [1.0, INF],     Err(20)),
+    ([-INF, INF],    [-INF, INF],    Err(20)),
+    ([INF, INF],     [1.0, 1.0],     Err(20)),
+    // 20 before 21, whichever end it is at.
+    ([MAX, INF],     [2.0, 2.0],     Err(20)),
+    ([-INF, MAX],    [2.0, 2.0],     Err(20)),
+    ([2.0, MAX],     [2.0, INF],     Err(20)),
+    ([MAX, MAX],     [-INF, MAX],    Err(20)),
+];
+
+#[test]
+fn sums_differences_and_products_of_doubles() {
+    for (opcode, rows) in [(0x40, ADD), (0x41, SUBTRACT), (0x42, MULTIPLY)] {
+        for &(a, b, expected) in rows {
+            two(opcode, a, b, expected);
+        }
+    }
+}
+
+/// A and B may be one step: the rules take it as two that have its range.
+#[test]
+#[rustfmt::skip]
+fn sums_differences_and_products_of_one_step() {
+    for (opcode, a, expected) in [
+        (0x40, [-2.0, 3.0],   Ok([-4.0, 6.0])),
+        (0x41, [-2.0, 3.0],   Ok([-5.0, 5.0])),
+        (0x42, [-2.0, 3.0],   Ok([-6.0, 9.0])),
+        (0x40, [-0.0, -0.0],  Ok([-0.0, -0.0])),
+        (0x41, [-0.0, -0.0],  Ok([0.0, 0.0])),
+        (0x42, [-0.0, -0.0],  Ok([0.0, 0.0])),
+        (0x41, [MAX, MAX],    Ok([0.0, 0.0])),
+        (0x40, [1.0, MAX],    Err(21)),
+        (0x41, [-MAX, MAX],   Err(21)),
+        (0x42, [0.0, ROOT],   Err(21)),
+        (0x40, [0.0, INF],    Err(20)),
+        (0x41, [INF, INF],    Err(20)),
+        (0x42, [-INF, 0.0],   Err(20)),
+    ] {
+        let expected: Result<[f64; 2], u64> = expected;
+        one(opcode, a, expected);
+    }
+}
+
 /// "each end". Refusal 22: "magnitude over 2^53 (sheet: of either end)".
 #[test]
 #[rustfmt::skip]

@@ -9,11 +9,11 @@ use estrenwind_tests::recipes::{frame, Draft, Line};
 use estrenwind_tests::reference::recipe::{Kind, Operation};
 
 /// Ranges that every rule is tried on, and inputs drawn from each.
-const RANGES: usize = 2_000;
+pub const RANGES: usize = 2_000;
 const FRAMES: usize = 10;
 
-/// The range of remainder on operands with these ends, or the refusal.
-type Rule = fn([f64; 2], [f64; 2]) -> Result<[f64; 2], u64>;
+/// The range of a step on operands with these ends, or the refusal.
+pub type Rule = fn([f64; 2], [f64; 2]) -> Result<[f64; 2], u64>;
 
 /// The greatest magnitude of two ends, and the least.
 fn greatest([low, high]: [f64; 2]) -> f64 {
@@ -24,7 +24,7 @@ fn least([low, high]: [f64; 2]) -> f64 {
     low.abs().min(high.abs())
 }
 
-fn reaches_infinity(ends: [f64; 2]) -> bool {
+pub fn reaches_infinity(ends: [f64; 2]) -> bool {
     ends.iter().any(|end| end.is_infinite())
 }
 
@@ -115,7 +115,7 @@ const HELD: [(&str, Rule); 6] = [
     }),
 ];
 
-fn bits(range: Result<[f64; 2], u64>) -> Result<[u64; 2], u64> {
+pub fn bits(range: Result<[f64; 2], u64>) -> Result<[u64; 2], u64> {
     range.map(|ends| ends.map(f64::to_bits))
 }
 
@@ -129,19 +129,20 @@ fn refuted_by_rows(rule: Rule) -> usize {
 }
 
 /// Two ranges, and what the library's runs make of inputs in them: a word, or a refusal.
-struct Tried {
-    a: [f64; 2],
-    b: [f64; 2],
+pub struct Tried {
+    pub a: [f64; 2],
+    pub b: [f64; 2],
     values: Vec<Result<f64, u64>>,
 }
 
 impl Tried {
-    fn new(random: &mut Random) -> Tried {
-        let operation = Operation::of_opcode(0x24).expect("an opcode");
+    /// By a step of two doubles.
+    fn new(random: &mut Random, opcode: u8) -> Tried {
+        let operation = Operation::of_opcode(opcode).expect("an opcode");
         let ranges = random.operands(operation, false);
         let [a, b] = ranges.map(|range| [range.low, range.high]);
         let inputs = [a, b].map(|ends| Line::input(Kind::Double, ends));
-        let lines = vec![inputs[0], inputs[1], Line::step(0x24, 0, 1)];
+        let lines = vec![inputs[0], inputs[1], Line::step(opcode, 0, 1)];
         let text = Draft {
             lines,
             words: vec![],
@@ -163,7 +164,7 @@ impl Tried {
     }
 
     /// Whether a value breaks what the rule promises.
-    fn refutes(&self, rule: Rule) -> bool {
+    pub fn refutes(&self, rule: Rule) -> bool {
         let Ok([low, high]) = rule(self.a, self.b) else {
             return false;
         };
@@ -172,9 +173,16 @@ impl Tried {
     }
 }
 
-fn tried() -> Vec<Tried> {
+/// Ranges for the operands of a step, each with runs.
+pub fn tried_by(opcode: u8) -> Vec<Tried> {
     let mut random = Random::new(0x2042);
-    (0..RANGES).map(|_| Tried::new(&mut random)).collect()
+    (0..RANGES)
+        .map(|_| Tried::new(&mut random, opcode))
+        .collect()
+}
+
+fn tried() -> Vec<Tried> {
+    tried_by(0x24)
 }
 
 #[test]

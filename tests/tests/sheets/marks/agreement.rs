@@ -70,7 +70,7 @@ fn cases(opcode: u8) -> &'static [(Case, bool)] {
         ],
         0x16 | 0x17 => &[(OfMarked, true), (OfUnmarked, false)],
         0x15 | 0x23 => &[(OfMarked, false), (OfUnmarked, false)],
-        0x20..=0x22 | 0x24 => &[
+        0x20..=0x22 | 0x24 | 0x40..=0x42 => &[
             (BothMarked, true),
             (OnlyA, false),
             (OnlyB, false),
@@ -103,7 +103,7 @@ fn case(line: &Line, step: usize, shown: &[Shown]) -> Case {
         },
         0x15..=0x17 | 0x23 if a => OfMarked,
         0x15..=0x17 | 0x23 => OfUnmarked,
-        0x20..=0x22 | 0x24 => match (a, b) {
+        0x20..=0x22 | 0x24 | 0x40..=0x42 => match (a, b) {
             (true, true) => BothMarked,
             (true, false) => OnlyA,
             (false, true) => OnlyB,

@@ -76,11 +76,12 @@ fn keepers_keep_what_is_there() {
     }
 }
 
-/// One kind of step alone, 127 times: fabs, negate, and fmin, fmax, fmod and remainder by a number.
+/// One kind of step alone, 127 times: fabs, negate, and fmin, fmax, fmod, remainder, a sum, a difference
+/// and a product with a number.
 #[test]
 fn one_keeper_again_and_again() {
     for (start, mark) in [(3.0, true), (-3.0, true), (2.5, false), (-2.5, false)] {
-        for opcode in [0x16, 0x17, 0x20, 0x21, 0x22, 0x24] {
+        for opcode in [0x16, 0x17, 0x20, 0x21, 0x22, 0x24, 0x40, 0x41, 0x42] {
             let mut lines = vec![double(start), double(5.0), Line::step(0x17, 0, 0)];
             while lines.len() < MOST_STEPS {
                 let last = lines.len() - 1;
@@ -173,6 +174,9 @@ fn the_last_step_on_the_first() {
                 Line::step(0x17, a, 0),
                 Line::step(0x20, a, a),
                 Line::step(0x21, a, a),
+                Line::step(0x40, a, a),
+                Line::step(0x41, a, a),
+                Line::step(0x42, a, a),
             ] {
                 let mut lines = vec![double(2.0), double(2.5)];
                 lines.resize(MOST_STEPS - 1, between);

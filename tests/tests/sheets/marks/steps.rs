@@ -195,6 +195,44 @@ const ROWS: &[Row] = &[
     (0x24, ROUNDED,        INFINITE,       NO,  "A alone, and always itself"),
     (0x24, ROUNDED,        HALF,           NO,  "A alone"),
     (0x24, ZEROS,          HALF,           NO,  "A alone, and always zero"),
+    // W-208: "Marked when both operands are"
+    (0x40, ROUNDED,        FROM_WHOLE,     YES, "both"),
+    (0x40, ROUNDED,        FRACTIONS,      NO,  "A alone"),
+    (0x40, FRACTIONS,      ROUNDED,        NO,  "B alone"),
+    (0x40, FRACTIONS,      HALF_TO_EIGHT,  NO,  "neither"),
+    (0x40, THREE,          ZEROS,          YES, "both"),
+    (0x40, ROUNDED,        ROUNDED,        YES, "both, one step"),
+    (0x40, FRACTIONS,      FRACTIONS,      NO,  "neither, one step"),
+    (0x40, LARGEST,        THREE,          YES, "both"),
+    (0x40, LARGEST,        HALF,           NO,  "A alone, and always the largest"),
+    (0x40, HALF,           HALF,           NO,  "neither, and always 5"),
+    (0x40, ROUNDED,        INTEGRAL_ENDS,  NO,  "A alone"),
+    (0x40, INTEGRAL_ENDS,  INTEGRAL_ENDS,  NO,  "neither, one step"),
+    (0x41, ROUNDED,        FROM_WHOLE,     YES, "both"),
+    (0x41, ROUNDED,        FRACTIONS,      NO,  "A alone"),
+    (0x41, FRACTIONS,      ROUNDED,        NO,  "B alone"),
+    (0x41, FRACTIONS,      HALF_TO_EIGHT,  NO,  "neither"),
+    (0x41, THREE,          ZEROS,          YES, "both"),
+    (0x41, ROUNDED,        ROUNDED,        YES, "both, one step"),
+    (0x41, FRACTIONS,      FRACTIONS,      NO,  "neither, one step, and always zero"),
+    (0x41, LARGEST,        THREE,          YES, "both"),
+    (0x41, LARGEST,        HALF,           NO,  "A alone, and always the largest"),
+    (0x41, HALF,           HALF,           NO,  "neither, and always zero"),
+    (0x41, ROUNDED,        INTEGRAL_ENDS,  NO,  "A alone"),
+    (0x41, INTEGRAL_ENDS,  INTEGRAL_ENDS,  NO,  "neither, one step"),
+    (0x42, ROUNDED,        FROM_WHOLE,     YES, "both"),
+    (0x42, ROUNDED,        FRACTIONS,      NO,  "A alone"),
+    (0x42, FRACTIONS,      ROUNDED,        NO,  "B alone"),
+    (0x42, FRACTIONS,      HALF_TO_EIGHT,  NO,  "neither"),
+    (0x42, THREE,          ZEROS,          YES, "both"),
+    (0x42, ROUNDED,        ROUNDED,        YES, "both, one step"),
+    (0x42, FRACTIONS,      FRACTIONS,      NO,  "neither, one step"),
+    (0x42, LARGEST,        ZEROS,          YES, "both"),
+    (0x42, ZEROS,          FRACTIONS,      NO,  "A alone, and always zero"),
+    (0x42, HALF,           ZEROS,          NO,  "B alone, and always zero"),
+    (0x42, HALF,           HALF,           NO,  "neither"),
+    (0x42, ROUNDED,        INTEGRAL_ENDS,  NO,  "A alone"),
+    (0x42, INTEGRAL_ENDS,  INTEGRAL_ENDS,  NO,  "neither, one step"),
     // "all others lack it": ldexp
     (0x23, FRACTIONS,      POWERS,         NO,  "23 lacks it"),
     (0x23, ROUNDED,        POWERS,         NO,  "23 lacks it, though no power is below 0"),
@@ -239,7 +277,7 @@ fn no_row_is_left_out() {
             _ => &[false, true],
         };
         assert!(met.iter().eq(expected), "{opcode:02x}: {met:?}");
-        if [0x20, 0x21, 0x22, 0x24].contains(&opcode) {
+        if matches!(opcode, 0x20..=0x22 | 0x24 | 0x40..=0x42) {
             let pairs: BTreeSet<[bool; 2]> = rows
                 .map(|&(_, a, b, ..)| [operands[a], operands[b]])
                 .collect();

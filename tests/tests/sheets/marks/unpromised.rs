@@ -97,6 +97,37 @@ fn recipes() -> Vec<(&'static str, Vec<Line>)> {
             "24: by a half an integer leaves a zero",
             vec![inputs, rounded, double(0.5), step(0x24, 1, 2)],
         ),
+        (
+            "40: two halves are one",
+            vec![double(0.5), step(0x40, 0, 0)],
+        ),
+        (
+            "40: beyond 2^52 a sum has no fraction left",
+            vec![inputs, double(two_53), step(0x40, 0, 1)],
+        ),
+        (
+            "41: a step taken from itself is a zero, of one number",
+            vec![double(2.5), step(0x41, 0, 0)],
+        ),
+        (
+            "42: by a zero it is a zero",
+            vec![inputs, double(-0.0), step(0x42, 0, 1)],
+        ),
+        (
+            "42: an even integer by a half",
+            vec![
+                inputs,
+                rounded,
+                double(2.0),
+                step(0x42, 1, 2),
+                double(0.5),
+                step(0x42, 3, 4),
+            ],
+        ),
+        (
+            "42: too small to be more than a zero",
+            vec![Line::input_of([1e-300, 2e-300]), step(0x42, 0, 0)],
+        ),
         ("01: from 2^52 to 2^53 all are integers", vec![integers]),
         (
             "01: the two largest",

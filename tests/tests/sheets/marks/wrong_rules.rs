@@ -74,7 +74,7 @@ impl Step {
 /// Steps that a wrong rule marks, besides those that W-203's does.
 type Also = fn(&Step) -> bool;
 
-const REFUTED: [(&str, Also); 26] = [
+const REFUTED: [(&str, Also); 38] = [
     ("an input with integral ends", |s| {
         s.is(0x01) && s.has_integral_ends()
     }),
@@ -116,11 +116,29 @@ const REFUTED: [(&str, Also); 26] = [
     }),
     ("24 when A is", |s| s.is(0x24) && s.a_is_marked()),
     ("24 when B is", |s| s.is(0x24) && s.b_is_marked()),
+    ("40 when A is", |s| s.is(0x40) && s.a_is_marked()),
+    ("40 when B is", |s| s.is(0x40) && s.b_is_marked()),
+    ("40 always", |s| s.is(0x40)),
+    ("40 with integral ends", |s| {
+        s.is(0x40) && s.has_integral_ends()
+    }),
+    ("41 when A is", |s| s.is(0x41) && s.a_is_marked()),
+    ("41 when B is", |s| s.is(0x41) && s.b_is_marked()),
+    ("41 always", |s| s.is(0x41)),
+    ("41 with integral ends", |s| {
+        s.is(0x41) && s.has_integral_ends()
+    }),
+    ("42 when A is", |s| s.is(0x42) && s.a_is_marked()),
+    ("42 when B is", |s| s.is(0x42) && s.b_is_marked()),
+    ("42 always", |s| s.is(0x42)),
+    ("42 with integral ends", |s| {
+        s.is(0x42) && s.has_integral_ends()
+    }),
     ("every step with integral ends", |s| s.has_integral_ends()),
 ];
 
 /// Marked besides, and never broken.
-const UNREFUTED: [(&str, Also); 5] = [
+const UNREFUTED: [(&str, Also); 7] = [
     ("15 keeps A's", |s| s.is(0x15) && s.a_is_marked()),
     ("23 keeps A's where no power is below 0", |s| {
         s.is(0x23) && s.a_is_marked() && s.b.is_some_and(|b| b.low as i64 >= 0)
@@ -134,6 +152,13 @@ const UNREFUTED: [(&str, Also); 5] = [
     }),
     ("24 when A is and B is infinite", |s| {
         s.is(0x24) && s.a_is_marked() && s.b_is_infinite()
+    }),
+    // From 2^52 on every double is an integer.
+    ("40 to 42 where the range begins beyond 2^52", |s| {
+        (0x40..=0x42).contains(&s.opcode) && s.ends()[0] >= 4_503_599_627_370_496.0
+    }),
+    ("42 when A is, and is zero", |s| {
+        s.is(0x42) && s.a_is_marked() && s.a.is_some_and(|a| (a.low | a.high) << 1 == 0)
     }),
 ];
 
