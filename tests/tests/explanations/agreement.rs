@@ -8,9 +8,9 @@ use estrenwind_tests::recipes::ExplainCall;
 use estrenwind_tests::reference::recipe::Way;
 
 /// Seeds that a test goes through, on all cores; each gives `CALLS` calls.
-const SEEDS: u64 = 1_100;
-const EXACT_SEEDS: u64 = 56;
-const CALLS: u64 = 287;
+const SEEDS: u64 = 760;
+const EXACT_SEEDS: u64 = 36;
+const CALLS: u64 = 453;
 
 /// The calls of a seed: recipes that pass, recipes of a run, which may or may not, every fault,
 /// every pair of faults, and recipes that are turned down for every set of facts, as they are and

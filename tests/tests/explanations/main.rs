@@ -10,3 +10,4 @@ mod memory;
 mod paper;
 mod reasons;
 mod sheet;
+mod wrong_reasons;

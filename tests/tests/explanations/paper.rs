@@ -34,11 +34,11 @@ fn one<A: Ends>(opcode: u8, a: A, reason: u64) {
     explains(&[Line::input_of(a), Line::step(opcode, 0, 0)], 0, reason);
 }
 
-/// A step on two others, A's before B's and after it. But for 01, A is to blame.
+/// A step on two others, A's before B's and after it. But for 01, 10 and 11, A is to blame.
 #[track_caller]
 fn two<A: Ends, B: Ends>(opcode: u8, a: A, b: B, reason: u64) {
     let [a, b] = [Line::input_of(a), Line::input_of(b)];
-    let of_b = reason == 0x01;
+    let of_b = [0x01, 0x10, 0x11].contains(&reason);
     explains(&[a, b, Line::step(opcode, 0, 1)], of_b as u64, reason);
     explains(&[b, a, Line::step(opcode, 1, 0)], !of_b as u64, reason);
 }
@@ -247,6 +247,141 @@ fn whole_to_double() {
     }
 }
 
+/// A sum, a difference or a product of doubles, the ranges of a and b, and the reason.
+pub type Row = (u8, [f64; 2], [f64; 2], u64);
+
+/// Half of the largest number's last place, 2^970: MAX and so much is rounded to infinity.
+const EDGE: f64 = f64::from_bits((970 + 1023) << 52);
+const BELOW_EDGE: f64 = f64::from_bits(((970 + 1023) << 52) - 1);
+/// 2^512, whose square is beyond the largest.
+const ROOT: f64 = f64::from_bits((512 + 1023) << 52);
+const BELOW_ROOT: f64 = f64::from_bits(((512 + 1023) << 52) - 1);
+
+/// W-208: "0e to 11, an infinite end (a low, a high, b low, b high), and 12, 13, low and high answer
+/// overflows, naming A".
+#[rustfmt::skip]
+pub const SUMS: &[Row] = &[
+    (0x40, [-1.0, 1.0],     [-1.0, 1.0],     PASSED),
+    (0x40, [-MAX, MAX],     [-1.0, 1.0],     PASSED),
+    (0x40, [-MAX, -MAX],    [MAX, MAX],      PASSED),
+    (0x40, [-INF, 1.0],     [0.0, 1.0],      0x0e),
+    (0x40, [0.0, INF],      [0.0, 1.0],      0x0f),
+    (0x40, [0.0, 1.0],      [-INF, 1.0],     0x10),
+    (0x40, [0.0, 1.0],      [0.0, INF],      0x11),
+    (0x40, [-MAX, 0.0],     [-MAX, 0.0],     0x12),
+    (0x40, [0.0, MAX],      [0.0, MAX],      0x13),
+    (0x40, [-MAX, 0.0],     [-BELOW_EDGE, 0.0], PASSED),
+    (0x40, [-MAX, 0.0],     [-EDGE, 0.0],    0x12),
+    (0x40, [0.0, MAX],      [0.0, BELOW_EDGE], PASSED),
+    (0x40, [0.0, MAX],      [0.0, EDGE],     0x13),
+    // An infinite end of either sign.
+    (0x40, [INF, INF],      [0.0, 1.0],      0x0e),
+    (0x40, [-INF, -INF],    [0.0, 1.0],      0x0e),
+    (0x40, [0.0, 1.0],      [INF, INF],      0x10),
+    (0x40, [0.0, 1.0],      [-INF, -INF],    0x10),
+    // Several at once.
+    (0x40, [-MAX, MAX],     [-MAX, MAX],     0x12),
+    (0x40, [MAX, MAX],      [MAX, MAX],      0x12),
+    (0x40, [-MAX, -MAX],    [-MAX, -MAX],    0x12),
+    (0x40, [-INF, INF],     [-INF, INF],     0x0e),
+    (0x40, [-INF, INF],     [0.0, 1.0],      0x0e),
+    (0x40, [0.0, 1.0],      [-INF, INF],     0x10),
+    (0x40, [0.0, INF],      [-INF, 0.0],     0x0f),
+    (0x40, [0.0, INF],      [0.0, INF],      0x0f),
+    (0x40, [-INF, 0.0],     [0.0, INF],      0x0e),
+    (0x40, [-INF, 0.0],     [-INF, 0.0],     0x0e),
+    (0x40, [-INF, MAX],     [0.0, MAX],      0x0e),
+    (0x40, [-MAX, INF],     [-MAX, 0.0],     0x0f),
+    (0x40, [0.0, MAX],      [-INF, MAX],     0x10),
+    (0x40, [-MAX, 0.0],     [-MAX, INF],     0x11),
+    // A difference: the low answer is low - high.
+    (0x41, [-1.0, 1.0],     [-1.0, 1.0],     PASSED),
+    (0x41, [-MAX, 0.0],     [-MAX, 0.0],     PASSED),
+    (0x41, [MAX, MAX],      [MAX, MAX],      PASSED),
+    (0x41, [-INF, 1.0],     [0.0, 1.0],      0x0e),
+    (0x41, [0.0, INF],      [0.0, 1.0],      0x0f),
+    (0x41, [0.0, 1.0],      [-INF, 1.0],     0x10),
+    (0x41, [0.0, 1.0],      [0.0, INF],      0x11),
+    (0x41, [-MAX, 0.0],     [0.0, MAX],      0x12),
+    (0x41, [0.0, MAX],      [-MAX, 0.0],     0x13),
+    (0x41, [-MAX, 0.0],     [0.0, BELOW_EDGE], PASSED),
+    (0x41, [-MAX, 0.0],     [0.0, EDGE],     0x12),
+    (0x41, [0.0, MAX],      [-BELOW_EDGE, 0.0], PASSED),
+    (0x41, [0.0, MAX],      [-EDGE, 0.0],    0x13),
+    (0x41, [-MAX, MAX],     [-MAX, MAX],     0x12),
+    (0x41, [MAX, MAX],      [-MAX, -MAX],    0x12),
+    (0x41, [INF, INF],      [INF, INF],      0x0e),
+    (0x41, [0.0, 1.0],      [INF, INF],      0x10),
+    (0x41, [-MAX, INF],     [0.0, MAX],      0x0f),
+    (0x41, [-INF, MAX],     [-MAX, 0.0],     0x0e),
+    (0x41, [-MAX, 0.0],     [-INF, MAX],     0x10),
+    (0x41, [0.0, MAX],      [-MAX, INF],     0x11),
+    // A product: the answers are the fmin and the fmax of four.
+    (0x42, [-MAX, MAX],     [-1.0, 1.0],     PASSED),
+    (0x42, [0.0, 0.0],      [-MAX, MAX],     PASSED),
+    (0x42, [-INF, 1.0],     [0.0, 0.0],      0x0e),
+    (0x42, [0.0, INF],      [0.0, 0.0],      0x0f),
+    (0x42, [0.0, 0.0],      [-INF, 0.0],     0x10),
+    (0x42, [0.0, 0.0],      [0.0, INF],      0x11),
+    (0x42, [0.0, MAX],      [0.0, 2.0],      0x13),
+    (0x42, [-MAX, 0.0],     [-2.0, 0.0],     0x13),
+    (0x42, [-MAX, 0.0],     [0.0, 2.0],      0x12),
+    (0x42, [0.0, MAX],      [-2.0, 0.0],     0x12),
+    (0x42, [-1.0, MAX],     [-2.0, 1.0],     0x12),
+    (0x42, [-MAX, 1.0],     [-1.0, 2.0],     0x12),
+    (0x42, [-MAX, 1.0],     [-2.0, 1.0],     0x13),
+    (0x42, [-1.0, MAX],     [-1.0, 2.0],     0x13),
+    (0x42, [1.0, ROOT],     [1.0, BELOW_ROOT], PASSED),
+    (0x42, [1.0, ROOT],     [1.0, ROOT],     0x13),
+    (0x42, [-ROOT, -1.0],   [1.0, BELOW_ROOT], PASSED),
+    (0x42, [-ROOT, -1.0],   [1.0, ROOT],     0x12),
+    (0x42, [-MAX, MAX],     [0.0, 2.0],      0x12),
+    (0x42, [MAX, MAX],      [2.0, 2.0],      0x12),
+    (0x42, [-MAX, -MAX],    [-2.0, -2.0],    0x12),
+    (0x42, [-MAX, -MAX],    [2.0, 2.0],      0x12),
+    (0x42, [MAX, INF],      [2.0, 2.0],      0x0f),
+    (0x42, [2.0, 2.0],      [-INF, MAX],     0x10),
+    (0x42, [MAX, MAX],      [2.0, INF],      0x11),
+    (0x42, [-INF, INF],     [-INF, INF],     0x0e),
+    (0x42, [0.0, INF],      [-INF, 0.0],     0x0f),
+];
+
+#[test]
+fn sums_and_products_of_doubles() {
+    for &(opcode, a, b, reason) in SUMS {
+        two(opcode, a, b, reason);
+    }
+}
+
+#[test]
+#[rustfmt::skip]
+fn sums_and_products_of_one_step() {
+    let half = 0.5 * MAX;
+    for (opcode, a, reason) in [
+        (0x40, [-half, half],     PASSED),
+        (0x40, [-MAX, half],      0x12),
+        (0x40, [-half, MAX],      0x13),
+        (0x40, [-MAX, MAX],       0x12),
+        (0x40, [-INF, MAX],       0x0e),
+        (0x40, [-MAX, INF],       0x0f),
+        (0x40, [INF, INF],        0x0e),
+        (0x41, [-half, half],     PASSED),
+        (0x41, [-MAX, half],      0x12),
+        (0x41, [MAX, MAX],        PASSED),
+        (0x41, [-INF, 0.0],       0x0e),
+        (0x41, [0.0, INF],        0x0f),
+        (0x42, [-1.0, BELOW_ROOT], PASSED),
+        (0x42, [-1.0, ROOT],      0x13),
+        (0x42, [-ROOT, 1.0],      0x13),
+        (0x42, [-ROOT, ROOT],     0x12),
+        (0x42, [ROOT, ROOT],      0x12),
+        (0x42, [-INF, 0.0],       0x0e),
+        (0x42, [0.0, INF],        0x0f),
+    ] {
+        twice(opcode, a, reason);
+    }
+}
+
 /// What is written for a text, as the program's line has it: "A passed recipe answers 00; a recipe
 /// refused earlier gives that refusal." The answers of the C call are told from their fields.
 #[test]
@@ -263,6 +398,9 @@ fn texts_and_their_lines() {
     const FMOD: &str = "22000000000000000000000000000000000000\n"; // of step 0 by itself
     const REMAINDER: &str = "24000000000000000000000000000000000000\n"; // of step 0 by itself
     const LROUND: &str = "18000000000000000000000000000000000000\n"; // of step 0
+    const LARGE: &str = "010000ffefffffffffffff7fefffffffffffff\n"; // any finite double
+    const ADD: &str = "40000000000000000000000000000000000000\n"; // of step 0 and itself
+    const MULTIPLY: &str = "42000000000000000000000000000000000000\n"; // of step 0 and itself
     const TO_DOUBLE: &str = "32000000000000000000000000000000000000\n"; // of step 0
     const SUM: &str = "30000000000000000000000000000000000000\n"; // of step 0 and itself
     let up = EXAMPLE.replace("401d", "7ff0");
@@ -289,6 +427,16 @@ fn texts_and_their_lines() {
         (&format!("{FULL}{floors}227e00{:032}\n", 0), "7f0001"),
         (&format!("{FULL}{floors}24007e{:032}\n", 0), "7f7e01"),
         (&format!("{FULL}{floors}247e00{:032}\n", 0), "7f0001"),
+        (&format!("{FULL}{ADD}{LROUND}"), "01000e"),
+        (&format!("{FULL}{LROUND}{ADD}"), "010004"),
+        (&format!("{LARGE}{ADD}"), "010012"),
+        (&format!("{LARGE}{FULL}400001{:032}\n", 0), "020110"),
+        (&format!("{LARGE}{FULL}400100{:032}\n", 0), "02010e"),
+        (&format!("{LARGE}{FULL}420001{:032}\n", 0), "020110"),
+        (&format!("{LARGE}{floors}{MULTIPLY}"), "7f0012"),
+        (&format!("{LARGE}{floors}41007e{:032}\n", 0), "7f0012"),
+        (&format!("{LARGE}{floors}417e00{:032}\n", 0), "7f7e12"),
+        (&format!("{FULL}{LARGE}{}40017e{:032}\n", &floors[39..], 0), "7f7e10"),
         (&format!("{FULL}{floors}{NEXT}"), "00"),
         // A recipe refused earlier, though a step of it would be refused too.
         ("", "ff0a00"),
@@ -299,6 +447,10 @@ fn texts_and_their_lines() {
         (&format!("{FULL}{LROUND}{}", "z".repeat(39)), "ff0b02"),
         (&format!("{FULL}{LROUND}{:038}\n", 0), "ff0c02"),
         (&format!("{FULL}{LROUND}25{:036}\n", 0), "ff0c02"),
+        (&format!("{FULL}{ADD}3f{:036}\n", 0), "ff0c02"),
+        (&format!("{FULL}{ADD}43{:036}\n", 0), "ff0c02"),
+        (&format!("{FULL}{ADD}4002{:034}\n", 0), "ff0e02"),
+        (&format!("{WHOLE}{ADD}"), "ff0f01"),
         (&format!("{FULL}{LROUND}180001{:032}\n", 0), "ff0d02"),
         (&format!("{FULL}{LROUND}1802{:034}\n", 0), "ff0e02"),
         (&format!("{FULL}{LROUND}1801{:034}\n", 0), "ff0f02"),

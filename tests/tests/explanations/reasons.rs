@@ -10,14 +10,15 @@ use estrenwind_tests::reference::recipe::Way;
 use std::collections::{BTreeMap, BTreeSet};
 
 /// Recipes for a set of facts at a place, every tenth by the authority.
-const ROUNDS: u64 = 300;
+const ROUNDS: u64 = 120;
 
 /// Explains a recipe turned down for these facts, and gives the code.
 fn explained(random: &mut Random, way: Way, facts: &Facts, place: Place, same: bool) -> u64 {
     let (draft, step) = random.turned_down(facts, place, same);
     let code = facts.codes[0];
     let line = draft.lines[step];
-    let operand = if code == 0x01 { line.b } else { line.a };
+    let is_of_b = [0x01, 0x10, 0x11].contains(&code);
+    let operand = if is_of_b { line.b } else { line.a };
     let call = draft.explain_call();
     let answer = check(way, &call).answer;
     let expected = ExplainAnswer {
@@ -67,16 +68,16 @@ fn where_a_and_b_are_the_same_step() {
     }
 }
 
-/// Every pair of facts of one opcode is among the sets above, but for the two that exclude each
-/// other: an infinite end is not finite and too large.
+/// Every pair of facts of one opcode is among the sets above, but for those that exclude each other: an
+/// infinite end is not finite and too large, and no answer of one overflows. Of each pair there is a set
+/// that the first of the two begins, so that the other order would show.
 #[test]
 fn every_pair_is_tried() {
     let mut pairs = BTreeSet::new();
     for facts in &FACTS {
-        for (i, first) in facts.codes.iter().enumerate() {
-            for second in &facts.codes[i + 1..] {
-                pairs.insert((facts.opcode, *first, *second));
-            }
+        let (first, others) = facts.codes.split_first().expect("a fact");
+        for second in others {
+            pairs.insert((facts.opcode, *first, *second));
         }
     }
     let mut expected = BTreeSet::new();
@@ -87,7 +88,10 @@ fn every_pair_is_tried() {
         (0x24, 0x01..=0x03),
         (0x30, 0x06..=0x07),
         (0x31, 0x06..=0x07),
-        (0x32, 0x0c..=0x0du8),
+        (0x32, 0x0c..=0x0d),
+        (0x40, 0x0e..=0x13),
+        (0x41, 0x0e..=0x13),
+        (0x42, 0x0e..=0x13u8),
     ] {
         for first in codes.clone() {
             for second in first + 1..=*codes.end() {
@@ -97,5 +101,21 @@ fn every_pair_is_tried() {
     }
     assert!(expected.remove(&(0x23, 0x08, 0x0a)));
     assert!(expected.remove(&(0x23, 0x09, 0x0b)));
+    for (opcode, low, high) in [
+        (0x40, [0x0e, 0x10], [0x0f, 0x11]),
+        (0x41, [0x0e, 0x11], [0x0f, 0x10]),
+    ] {
+        for infinite in low {
+            assert!(expected.remove(&(opcode, infinite, 0x12)));
+        }
+        for infinite in high {
+            assert!(expected.remove(&(opcode, infinite, 0x13)));
+        }
+    }
+    for infinite in 0x0e..=0x11 {
+        for overflow in [0x12, 0x13] {
+            assert!(expected.remove(&(0x42, infinite, overflow)));
+        }
+    }
     assert_eq!(pairs, expected);
 }
