@@ -281,6 +281,57 @@ fn a_refused_recipe_gives_one_line() {
     }
 }
 
+/// W-208: two inputs, their sum, difference or product. -3 and 1.5 are in any range that is asked for.
+#[test]
+fn sums_differences_and_products() {
+    let inputs = |[low, high]: [f64; 2]| {
+        let (low, high) = (low.to_bits(), high.to_bits());
+        format!("010000{low:016x}{high:016x}\n").repeat(2)
+    };
+    let small = [-4.0, 4.0];
+    let frame = format!("{:016x}{:016x}\n", (-3f64).to_bits(), 1.5f64.to_bits());
+    for (opcode, value, high) in [
+        (0x40, -1.5f64, 8.0f64),
+        (0x41, -4.5, 8.0),
+        (0x42, -4.5, 16.0),
+    ] {
+        let with = |ends| format!("{}{opcode:02x}0001{:032}\n", inputs(ends), 0);
+        let text = with(small);
+        let (low, high) = ((-high).to_bits(), high.to_bits());
+        let lines: String = (0..2)
+            .map(|step| {
+                format!(
+                    "{step:02x}0100{:016x}{:016x}\n",
+                    (-4f64).to_bits(),
+                    4f64.to_bits()
+                )
+            })
+            .collect();
+        SHEET.prints(&text, &format!("{lines}020100{low:016x}{high:016x}\n"));
+        EXPLAIN.prints(&text, "00\n");
+        RUN.prints(
+            format!("{text}\n{frame}"),
+            &format!("01{:016x}\n", value.to_bits()),
+        );
+        // Any finite double: the ends overflow. Any double: they are infinite.
+        let finite = with([f64::MIN, f64::MAX]);
+        SHEET.prints(&finite, "ff1502\n");
+        EXPLAIN.prints(&finite, "020012\n");
+        let any = with([f64::NEG_INFINITY, f64::INFINITY]);
+        SHEET.prints(&any, "ff1402\n");
+        EXPLAIN.prints(&any, "02000e\n");
+        let [max, min, infinity, zero] = [f64::MAX, f64::MIN, f64::INFINITY, 0.0].map(f64::to_bits);
+        let frames = format!("{frame}{max:016x}{infinity:016x}\n{zero:016x}{infinity:016x}\n");
+        let value = format!("01{:016x}", value.to_bits());
+        RUN.prints(
+            format!("{any}\n{frames}"),
+            &format!("{value}\nff1402\nff1402\n"),
+        );
+        let other = if opcode == 0x41 { min } else { max };
+        RUN.prints(format!("{finite}\n{max:016x}{other:016x}\n"), "ff1502\n");
+    }
+}
+
 #[test]
 fn no_recipe() {
     for input in ["", "\n", "\n\n", "\nbfe0000000000000\n"] {

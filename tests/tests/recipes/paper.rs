@@ -238,6 +238,188 @@ fn the_nearest_remainder() {
     }
 }
 
+/// W-208: "Each is the language's own operation, rounded once to nearest, halves to even." "Refusals: 20 for
+/// an infinite operand .., then 21 for an infinite result". Each sum is read off by hand; a difference is
+/// the sum with the second negated.
+#[test]
+#[rustfmt::skip]
+fn sums_and_differences() {
+    let place = f64::EPSILON; // 2^-52, the last place of 1
+    let (max, tiny) = (f64::MAX, f64::from_bits(1));
+    let normal = f64::MIN_POSITIVE;
+    let inf = f64::INFINITY;
+    let edge = 2f64.powi(970); // half of the largest number's last place
+    for (x, y, answer) in [
+        (1.5,              2.25,             Ok(3.75)),
+        (0.1,              0.2,              Ok(0.30000000000000004)),
+        (-7.5,             2.0,              Ok(-5.5)),
+        // Ties: to the even one, below and above.
+        (1.0,              place / 2.0,      Ok(1.0)),
+        (1.0 + place,      place / 2.0,      Ok(1.0 + 2.0 * place)),
+        (1.0,              -place / 4.0,     Ok(1.0)),
+        (1.0,              -place * 0.375,   Ok(1.0 - place / 2.0)),
+        (1.0 - place / 2.0, place / 4.0,     Ok(1.0)),
+        (-1.0,             -place / 2.0,     Ok(-1.0)),
+        (-1.0 - place,     -place / 2.0,     Ok(-1.0 - 2.0 * place)),
+        // Beside a tie.
+        (1.0,              (place / 2.0).next_up(), Ok(1.0 + place)),
+        (1.0 + place,      (place / 2.0).next_down(), Ok(1.0 + place)),
+        // Of a number far below something is left only at a power of two, and nothing farther on.
+        (1.0,              -(place / 4.0).next_up(), Ok(1.0 - place / 2.0)),
+        (1.0,              tiny,             Ok(1.0)),
+        (1.0,              -tiny,            Ok(1.0)),
+        (1e16,             1.0,              Ok(1e16)),
+        (1e16,             3.0,              Ok(10000000000000004.0)),
+        // Digits cancel.
+        (1.0 + place,      -1.0,             Ok(place)),
+        (1.0,              -1.0 + place / 2.0, Ok(place / 2.0)),
+        (1e300,            -1e300,           Ok(0.0)),
+        (-max,             max,              Ok(0.0)),
+        // Subnormal numbers, where no sum is rounded.
+        (tiny,             tiny,             Ok(2.0 * tiny)),
+        (tiny,             -tiny,            Ok(0.0)),
+        (normal,           -tiny,            Ok(normal.next_down())),
+        (normal.next_down(), tiny,           Ok(normal)),
+        (normal * 1.5,     -normal,          Ok(normal / 2.0)),
+        // Zeros: +0, but for -0 + -0.
+        (0.0,              0.0,              Ok(0.0)),
+        (0.0,              -0.0,             Ok(0.0)),
+        (-0.0,             0.0,              Ok(0.0)),
+        (-0.0,             -0.0,             Ok(-0.0)),
+        (-0.0,             tiny,             Ok(tiny)),
+        (-tiny,            0.0,              Ok(-tiny)),
+        // Overflow's edge.
+        (max,              edge,             Err(21)),
+        (max,              edge.next_down(), Ok(max)),
+        (max,              tiny,             Ok(max)),
+        (-max,             -edge,            Err(21)),
+        (-max,             -edge.next_down(), Ok(-max)),
+        (max,              max,              Err(21)),
+        (max.next_down(),  2.0 * edge,       Ok(max)),
+        // 20 comes first, whatever the other is.
+        (inf,              1.0,              Err(20)),
+        (1.0,              -inf,             Err(20)),
+        (inf,              inf,              Err(20)),
+        (inf,              -inf,             Err(20)),
+        (-inf,             max,              Err(20)),
+        (0.0,              inf,              Err(20)),
+    ] {
+        computes(0x40, x, y, answer);
+        computes(0x40, y, x, answer);
+        computes(0x41, x, -y, answer);
+    }
+}
+
+/// The product's sign is that of the operands where these are the same, a zero's too.
+#[test]
+#[rustfmt::skip]
+fn products() {
+    let place = f64::EPSILON;
+    let (max, tiny) = (f64::MAX, f64::from_bits(1));
+    let normal = f64::MIN_POSITIVE;
+    let inf = f64::INFINITY;
+    for (x, y, answer) in [
+        (1.5,              -2.25,            Ok(-3.375)),
+        (-3.0,             -4.0,             Ok(12.0)),
+        (0.1,              0.1,              Ok(0.010000000000000002)),
+        // Ties, to the even one.
+        (1.5,              1.0 + place,      Ok(1.5 + 2.0 * place)),
+        (1.5,              1.0 + 3.0 * place, Ok(1.5 + 4.0 * place)),
+        (1.0 + place,      1.0 + place,      Ok(1.0 + 2.0 * place)),
+        (1.0 - place / 2.0, 1.0 - place / 2.0, Ok(1.0 - place)),
+        // Zeros by the signs.
+        (0.0,              5.0,              Ok(0.0)),
+        (-0.0,             5.0,              Ok(-0.0)),
+        (0.0,              -5.0,             Ok(-0.0)),
+        (-0.0,             -5.0,             Ok(0.0)),
+        (-0.0,             0.0,              Ok(-0.0)),
+        (-0.0,             -0.0,             Ok(0.0)),
+        // The smallest numbers: halves of a unit to even.
+        (tiny,             0.5,              Ok(0.0)),
+        (-tiny,            0.5,              Ok(-0.0)),
+        (tiny,             -0.5,             Ok(-0.0)),
+        (tiny,             0.5f64.next_up(), Ok(tiny)),
+        (3.0 * tiny,       0.5,              Ok(2.0 * tiny)),
+        (5.0 * tiny,       0.5,              Ok(2.0 * tiny)),
+        (7.0 * tiny,       0.25,             Ok(2.0 * tiny)),
+        (tiny,             tiny,             Ok(0.0)),
+        (normal,           1.0 - place / 2.0, Ok(normal)),              // a tie, up to the first normal one
+        (normal,           1.0 - place,      Ok(normal.next_down())),
+        (tiny,             1.0 / place,      Ok(normal)),
+        (2f64.powi(-537),  2f64.powi(-537),  Ok(tiny)),
+        (2f64.powi(-538),  2f64.powi(-537),  Ok(0.0)),
+        // Overflow's edge.
+        (max,              1.0,              Ok(max)),
+        (max,              1.0 + place,      Err(21)),
+        (max,              -1.0 - place,     Err(21)),
+        (max / 2.0,        2.0,              Ok(max)),
+        (2f64.powi(512),   2f64.powi(512),   Err(21)),
+        (2f64.powi(512),   2f64.powi(512).next_down(), Ok(max)),
+        // (2^54 - 1)/3 times 3 is the tie at the edge.
+        (1.5,              f64::from_bits(0x7fe5555555555555), Err(21)),
+        (1.5,              f64::from_bits(0x7fe5555555555554), Ok(max.next_down())),
+        // 20 comes first, and beside a zero too.
+        (inf,              2.0,              Err(20)),
+        (inf,              0.0,              Err(20)),
+        (-inf,             -0.0,             Err(20)),
+        (max,              inf,              Err(20)),
+        (-inf,             inf,              Err(20)),
+    ] {
+        computes(0x42, x, y, answer);
+        computes(0x42, y, x, answer);
+    }
+}
+
+/// A step on two inputs of any value gives this, or is refused.
+#[track_caller]
+fn computes(opcode: u8, x: f64, y: f64, answer: Result<f64, u64>) {
+    const FULL: &str = "010000fff00000000000007ff0000000000000\n"; // any double
+    let text = format!("{FULL}{FULL}{opcode:02x}0001{:032}\n", 0);
+    let frame = format!("{:016x}{:016x}", x.to_bits(), y.to_bits());
+    let expected = match answer {
+        Ok(value) => completed(1, value.to_bits()),
+        Err(refusal) => refused(refusal, 2),
+    };
+    let outcome = check(Way::Exact, &call(&text, &frame));
+    assert_eq!(outcome.answer, expected, "{opcode:02x} {x:e} {y:e}");
+}
+
+/// Steps 40 to 42 as lines: operands of one step, of the wrong kind, ahead, and fields that they don't use.
+#[test]
+#[rustfmt::skip]
+fn sums_and_products_as_lines() {
+    const FULL: &str = "010000fff00000000000007ff0000000000000\n"; // any double
+    const WHOLE: &str = "02000080000000000000007fffffffffffffff\n"; // any whole number
+    for (text, frame, answer) in [
+        (format!("{FULL}400000{:032}\n", 0), "3ff8000000000000", completed(1, 0x4008000000000000)), // 1.5 + 1.5
+        (format!("{FULL}410000{:032}\n", 0), "bff8000000000000", completed(1, 0)),
+        (format!("{FULL}420000{:032}\n", 0), "bff8000000000000", completed(1, 0x4002000000000000)), // 2.25
+        (format!("{FULL}400000{:032}\n", 0), "8000000000000000", completed(1, 1 << 63)),
+        (format!("{FULL}420000{:032}\n", 0), "8000000000000000", completed(1, 0)),
+        (format!("{FULL}400000{:032}\n", 0), "7fefffffffffffff", refused(21, 1)),
+        (format!("{FULL}400000{:032}\n", 0), "fff0000000000000", refused(20, 1)),
+        (format!("{FULL}410000{:032}\n", 0), "7ff0000000000000", refused(20, 1)),
+        (format!("{FULL}{WHOLE}400001{:032}\n", 0), "", refused(15, 2)),
+        (format!("{WHOLE}{FULL}410001{:032}\n", 0), "", refused(15, 2)),
+        (format!("{WHOLE}420000{:032}\n", 0), "", refused(15, 1)),
+        (format!("{FULL}{FULL}400002{:032}\n", 0), "", refused(14, 2)),
+        (format!("{FULL}{FULL}410200{:032}\n", 0), "", refused(14, 2)),
+        (format!("{FULL}{FULL}420001{:031}1\n", 0), "", refused(13, 2)),
+        (format!("{FULL}{FULL}4000010000000000000001{:016}\n", 0), "", refused(13, 2)),
+        (format!("33{:036}\n", 0), "", refused(12, 0)),
+        (format!("3f{:036}\n", 0), "", refused(12, 0)),
+        (format!("43{:036}\n", 0), "", refused(12, 0)),
+        (format!("50{:036}\n", 0), "", refused(12, 0)),
+        (format!("c0{:036}\n", 0), "", refused(12, 0)),
+        // A refusal at an earlier step comes first.
+        (format!("{FULL}400000{:032}\n1800{:034}\n", 0, 0), "7fefffffffffffff", refused(21, 1)),
+        (format!("{FULL}1800{:034}\n400000{:032}\n", 0, 0), "7ff0000000000000", refused(21, 1)),
+    ] {
+        let outcome = check(Way::Exact, &call(&text, frame));
+        assert_eq!(outcome.answer, answer, "{text}{frame}");
+    }
+}
+
 /// "Order: 10; then line by line 11 to 17; then 40; for a run 30, 31 .."
 #[test]
 fn too_short_a_memory_comes_after_the_text_and_before_the_frame() {

@@ -1,6 +1,8 @@
 //! Each step on the operands where a mistake would sit, given as inputs of any value.
 
+use estrenwind_tests::arithmetic;
 use estrenwind_tests::functions::Function;
+use estrenwind_tests::library;
 use estrenwind_tests::operands::Operands;
 use estrenwind_tests::patterns::Random;
 use estrenwind_tests::recipes::comparison::check;
@@ -39,6 +41,9 @@ fn has_nan(operation: &Operation, words: [u64; 2]) -> bool {
 
 /// What the step's function is tried on; few of the edges where there are many.
 fn cases(operation: &Operation, random: &mut Random) -> Vec<[u64; 2]> {
+    if (0x40..=0x42).contains(&operation.opcode) {
+        return finite_pairs(random);
+    }
     let Some(function) = Function::of_step(operation.opcode) else {
         return wholes(random);
     };
@@ -47,6 +52,14 @@ fn cases(operation: &Operation, random: &mut Random) -> Vec<[u64; 2]> {
     let step = if operands == Operands::Pattern { 1 } else { 29 };
     let mut cases: Vec<[u64; 2]> = edges.into_iter().step_by(step).collect();
     cases.extend((0..40_000).map(|_| operands.random(&BINARY64, random)));
+    cases
+}
+
+/// What sums and products are tried on, and pairs with an infinity.
+fn finite_pairs(random: &mut Random) -> Vec<[u64; 2]> {
+    let mut cases = arithmetic::edges(&BINARY64);
+    cases.extend((0..200_000).map(|_| random.finite_pair(&BINARY64)));
+    cases.extend((0..5_000).map(|_| random.with_special(&BINARY64)));
     cases
 }
 
@@ -68,6 +81,43 @@ fn wholes(random: &mut Random) -> Vec<[u64; 2]> {
     cases
 }
 
+/// Sums, differences and products of finite numbers by the language's own operations, and not by the
+/// reference; 20 where an operand is infinite, else 21 where the result is.
+#[test]
+fn sums_and_products_as_the_language_has_them() {
+    let mut random = Random::new(28);
+    let host: [fn(f64, f64) -> f64; 3] = [|x, y| x + y, |x, y| x - y, |x, y| x * y];
+    for (opcode, host) in (0x40..=0x42).zip(host) {
+        let operation = Operation::of_opcode(opcode).expect("an opcode");
+        let mut counts = [0; 3];
+        for words in finite_pairs(&mut random) {
+            if has_nan(operation, words) {
+                continue;
+            }
+            let [x, y] = words.map(f64::from_bits);
+            let result = host(x, y);
+            let expected = if x.is_infinite() || y.is_infinite() {
+                Err(20)
+            } else if result.is_infinite() {
+                Err(21)
+            } else {
+                Ok(result.to_bits())
+            };
+            let call = draft(operation, words).run_call();
+            let mut memory = [0; 3];
+            let answer = library::run(&call.text, &call.frame, &mut memory);
+            let given = match answer.refusal {
+                0 => Ok(answer.word),
+                refusal => Err(refusal),
+            };
+            assert_eq!(given, expected, "{opcode:x} {x:e} {y:e}");
+            counts[expected.map_or_else(|refusal| refusal as usize - 19, |_| 0)] += 1;
+        }
+        println!("{opcode:x}: completed, refused with 20, with 21: {counts:?}");
+        assert!(counts.iter().all(|&count| count > 500), "{counts:?}");
+    }
+}
+
 #[test]
 fn every_step_on_its_edges() {
     let mut random = Random::new(26);
@@ -83,7 +133,7 @@ fn every_step_on_its_edges() {
         }
         let opcode = operation.opcode;
         assert!(completed > 1_000, "{opcode:x}: {completed}");
-        let refuses = matches!(opcode, 0x18 | 0x22..=0x24 | 0x30..=0x32);
+        let refuses = matches!(opcode, 0x18 | 0x22..=0x24 | 0x30..=0x32 | 0x40..=0x42);
         assert_eq!(refused > 500, refuses, "{opcode:x}: {refused}");
     }
 }

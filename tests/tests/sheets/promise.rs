@@ -200,7 +200,7 @@ fn recipes(random: &mut Random) -> Vec<Draft> {
 
 /// A sum, a difference or a product, on inputs whose ranges begin or end where digits cancel, at a tie,
 /// or about the smallest and the largest numbers; and the next such step on that.
-fn on_summands(random: &mut Random, opcode: u8) -> Draft {
+pub fn on_summands(random: &mut Random, opcode: u8) -> Draft {
     let [x, y] = random.finite_pair(&BINARY64);
     let [x, y] = [x, y].map(|word| random.range_from(word));
     let mut lines = [x, y].map(|ends| Line::input(Kind::Double, ends)).to_vec();
