@@ -6,13 +6,15 @@
 //! so do the lengths; each number is a median of its turns, so that what else the machine does
 //! falls on all. `--profile speed` leaves out the overflow checks that the tests have. Then
 //! explanations beside sheets, on the same recipes, and on ones that are turned down at their last
-//! step. Fails where a sheet or an explanation misses a target.
+//! step; and runs of sums and products beside runs of fmin on the same operands. Fails where a sheet, an
+//! explanation or such a run misses a target.
 
 use estrenwind_tests::patterns::Random;
 use estrenwind_tests::recipes::growing::{grow, grow_sheet, Plan};
 use estrenwind_tests::recipes::reasons::{Place, FACTS};
-use estrenwind_tests::recipes::{RunCall, SheetCall};
-use estrenwind_tests::reference::recipe::{sheet, text};
+use estrenwind_tests::recipes::values::ordinary_range;
+use estrenwind_tests::recipes::{Draft, Line, RunCall, SheetCall};
+use estrenwind_tests::reference::recipe::{sheet, text, Kind};
 use estrenwind_tests::{interpreter, library};
 use std::array;
 use std::hint::black_box;
@@ -33,6 +35,9 @@ const MOST_GROWTH: f64 = 1.25;
 
 /// An explanation may take so many times the time of the sheet of the same recipe.
 const MOST_OF_A_SHEET: f64 = 1.2;
+
+/// A run of 20 sums, differences and products may take so many times the time of one of 20 fmin.
+const MOST_OF_FMIN: f64 = 1.4;
 
 /// Recipes of so many steps, one in eight an input.
 fn plan(steps: usize, ordinary: bool) -> Plan {
@@ -147,7 +152,7 @@ fn sheet_calls(ordinary: bool) -> [Vec<SheetCall>; 4] {
 fn turned_down_calls() -> [Vec<SheetCall>; 2] {
     let mut random = Random::new(43);
     [Place::First, Place::Last].map(|place| {
-        let facts = FACTS.iter().cycle().take(RECIPES);
+        let facts = FACTS.iter();
         let mut call = |facts| {
             let (mut draft, step) = random.turned_down(facts, place, false);
             draft.lines.truncate(step + 1);
@@ -191,6 +196,88 @@ fn race_sheets(ordinary: bool) -> [Times; 4] {
             black_box(interpreter::sheet(black_box(&call.text), &mut theirs));
         },
     )
+}
+
+/// Inputs, and steps of two doubles on them.
+const INPUTS: usize = 4;
+const SUMS: usize = 20;
+
+/// The run of 20 sums, differences and products on numbers as a host has them, and the same with fmin in
+/// place of each: A is any earlier step, B an input, so that nothing overflows.
+struct SumsAndFmins {
+    sums: RunCall,
+    fmins: RunCall,
+}
+
+impl SumsAndFmins {
+    fn new(random: &mut Random) -> SumsAndFmins {
+        let input = Line::input(Kind::Double, ordinary_range(Kind::Double));
+        let mut sums = vec![input; INPUTS];
+        for step in INPUTS..INPUTS + SUMS {
+            // Each of the three as often, the last ones on the step before them.
+            let a = match random.below(2) {
+                0 => step - 1,
+                _ => random.below(step as u64) as usize,
+            };
+            let b = random.below(INPUTS as u64) as usize;
+            sums.push(Line::step(0x40 + (step % 3) as u8, a, b));
+        }
+        let fmin = |line: &Line| match line.opcode {
+            0x40..=0x42 => Line {
+                opcode: 0x20,
+                ..*line
+            },
+            _ => *line,
+        };
+        let fmins = sums.iter().map(fmin).collect();
+        let words: Vec<u64> = (0..INPUTS).map(|_| random.ordinary(Kind::Double)).collect();
+        let [sums, fmins] = [sums, fmins].map(|lines| {
+            let words = words.clone();
+            Draft { lines, words }.run_call()
+        });
+        SumsAndFmins { sums, fmins }
+    }
+}
+
+/// Runs of sums and products beside runs of fmin, both the library's.
+fn race_sums() -> Times {
+    let mut random = Random::new(44);
+    let calls: Vec<_> = (0..RECIPES)
+        .map(|_| SumsAndFmins::new(&mut random))
+        .collect();
+    let mut words = [0; INPUTS + SUMS];
+    for call in calls.iter().flat_map(|pair| [&pair.sums, &pair.fmins]) {
+        let answer = library::run(&call.text, &call.frame, &mut words);
+        let expected = interpreter::run(&call.text, &call.frame, &mut words.clone());
+        assert_eq!(answer, expected, "{call}");
+        assert_eq!(answer.refusal, 0, "{call}");
+    }
+    let mut others = words;
+    let [times] = race(
+        [INPUTS + SUMS],
+        &[calls],
+        |pair| {
+            let (text, frame) = (black_box(&pair.sums.text), black_box(&pair.sums.frame));
+            black_box(library::run(text, frame, &mut words));
+        },
+        |pair| {
+            let (text, frame) = (black_box(&pair.fmins.text), black_box(&pair.fmins.frame));
+            black_box(library::run(text, frame, &mut others));
+        },
+    );
+    times
+}
+
+/// Whether sums and products take no longer than they may, beside fmin.
+fn are_summed_in_time() -> bool {
+    let times = race_sums();
+    println!(
+        "a run of {SUMS} sums, differences and products takes {:.2} times one of {SUMS} fmin, {:.0} ns and {:.0} (at most {MOST_OF_FMIN})",
+        times.ratio(),
+        times.library,
+        times.plain,
+    );
+    times.ratio() <= MOST_OF_FMIN
 }
 
 fn print(title: &str, times: &[Times; 4]) {
@@ -251,6 +338,7 @@ fn main() -> ExitCode {
     for times in race_explanations([3, 128], &calls) {
         missed |= !is_explained_in_time("turned down at the last, an explanation", &times);
     }
+    missed |= !are_summed_in_time();
     if missed {
         println!("a target is missed");
         return ExitCode::FAILURE;

@@ -104,7 +104,7 @@ fn text_and_lines_cut_at_every_place() {
         let call = LinesCall {
             text: text.to_vec(),
             lines: lines.to_vec(),
-            lent: 100,
+            lent: 200,
         };
         let outcome = Outcome::made(&call, |memory| run_lines(text, lines, memory));
         let difference = outcome.difference(&Outcome::expected(Way::Short, &call), &call);
