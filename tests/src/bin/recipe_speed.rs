@@ -7,7 +7,7 @@
 //! falls on all. `--profile speed` leaves out the overflow checks that the tests have. Then
 //! explanations beside sheets, on the same recipes, and on ones that are turned down at their last
 //! step; and runs of sums and products beside runs of fmin on the same operands. Fails where a sheet, an
-//! explanation or such a run misses a target.
+//! explanation or such a run misses a target. `recipe_speed sums` times these runs alone.
 
 use estrenwind_tests::patterns::Random;
 use estrenwind_tests::recipes::growing::{grow, grow_sheet, Plan};
@@ -17,6 +17,7 @@ use estrenwind_tests::recipes::{Draft, Line, RunCall, SheetCall};
 use estrenwind_tests::reference::recipe::{sheet, text, Kind};
 use estrenwind_tests::{interpreter, library};
 use std::array;
+use std::env;
 use std::hint::black_box;
 use std::process::ExitCode;
 use std::time::Instant;
@@ -214,7 +215,7 @@ impl SumsAndFmins {
         let input = Line::input(Kind::Double, ordinary_range(Kind::Double));
         let mut sums = vec![input; INPUTS];
         for step in INPUTS..INPUTS + SUMS {
-            // Each of the three as often, the last ones on the step before them.
+            // Half of them on the step before, which they have to wait for.
             let a = match random.below(2) {
                 0 => step - 1,
                 _ => random.below(step as u64) as usize,
@@ -313,6 +314,9 @@ fn is_explained_in_time(what: &str, times: &Times) -> bool {
 }
 
 fn main() -> ExitCode {
+    if env::args().nth(1).as_deref() == Some("sums") {
+        return told(!are_summed_in_time());
+    }
     let mut missed = false;
     for (numbers, ordinary) in [
         ("numbers as a host has them", true),
@@ -339,6 +343,10 @@ fn main() -> ExitCode {
         missed |= !is_explained_in_time("turned down at the last, an explanation", &times);
     }
     missed |= !are_summed_in_time();
+    told(missed)
+}
+
+fn told(missed: bool) -> ExitCode {
     if missed {
         println!("a target is missed");
         return ExitCode::FAILURE;
