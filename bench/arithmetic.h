@@ -24,7 +24,8 @@ static const double BESIDE_HOST = 6.0;
     OPERATION(difference) \
     OPERATION(product)
 
-/* And with subnormal numbers. A product with one takes many processors long: there it may not take longer. */
+/* And with subnormal numbers. A product with one takes many processors long: there it may not take longer. Of two the product is a zero, which takes
+ * them no longer than any other: there the limit is that of normal numbers. */
 static const struct {
     const char *name, *what;
     int set;
@@ -37,7 +38,7 @@ static const struct {
     {"product", "subnormal factor", FACTOR, 1.0},
     {"product", "subnormal answer", LOW, 1.0},
     {"product", "both", TO_SUBNORMAL, 1.0},
-    {"product", "two subnormal", SUBNORMAL, 1.0},
+    {"product", "two subnormal", SUBNORMAL, 6.0},
 };
 
 enum { ARITHMETIC_CASES = sizeof arithmetic_cases / sizeof arithmetic_cases[0] };
