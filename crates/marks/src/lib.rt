@@ -61,10 +61,8 @@ fn is_whole(r: Range) -> bool
 fn by_both(opcode: u8) -> bool
     ensures { λ r. ⌜ r ≡ (within 0x20 0x22 opcode || eqb opcode 0x24 || within 0x40 0x42 opcode) ⌝ }
 {
-    any(
-        any(within(0x20, 0x22, opcode), opcode == 0x24),
-        within(0x40, 0x42, opcode),
-    )
+    let twenties = any(within(0x20, 0x22, opcode), opcode == 0x24);
+    any(twenties, within(0x40, 0x42, opcode))
 }
 
 // The mark of a step, by its opcode, its own range and its operands' marks.

@@ -2,6 +2,7 @@
 pub mod Lists
 pub mod Filled
 pub mod Rules
+pub mod Arithmetic
 pub mod Refused
 pub mod Causes
 pub mod Worked
