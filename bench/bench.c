@@ -25,7 +25,7 @@
 #include "versions.h"
 
 enum { COUNT = 4096, SAMPLES = 61, ENOUGH = 11 };
-static const double QUIET = 1.1, SECONDS = 120;
+static const double QUIET = 1.1, SECONDS = 360;
 
 /* ---- data ---- */
 
