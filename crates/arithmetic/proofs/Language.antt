@@ -1,23 +1,23 @@
 -- The language's own rounding, sum and product, as patterns, are ours: over lib.Ieee's format g. Assumes nothing.
 use mathlib.Core.Path.{_≡_, refl, sym, ap, _∙_}
-use mathlib.Core.Bool.{Bool, true, false, not, _&&_, _||_, Bool·beq, cond}
+use mathlib.Core.Bool.{Bool, true, false, not, _&&_, Bool·beq, cond}
 use mathlib.Core.Logic.{⊎-elim}
 use Prim.Native.Nat.{ℕ, suc, _+_, _-_, _*_, _/_, _%_, _^_, _≤_, _<_, compare, Ordering, Ordering·lt, Ordering·eq, Ordering·gt}
-use native.Mathlib.Nat.{mul-pos, mul-assoc, mul-comm, mul-sub, mul-mul-mul-comm}
+use native.Mathlib.Nat.{mul-pos, mul-comm, mul-sub, mul-mul-mul-comm}
 use native.Mathlib.Omega.{arith}
 use lib.Dec.{T, ltb, leb, eqb, isLe, isEq}
 use lib.Pow.{pow-pos, pow-add}
 use lib.Ieee as Ieee
 use lib.Ieee.{Float, nan, inf, fin, prec, emax, low, up, down, size, units, round, add, sub, neg, mul, unlike, ofBits, nanBits, toBits}
 use lib.Ieee.Exact.{HasValue, units-val}
-use lib.Ieee.Fits.{core, round-is, down-pos}
+use lib.Ieee.Fits.{round-is, down-pos}
 use lib.Ieee.Scale.{round-same}
 use borrow.Author.Tests.{lt-ltb, le-ltb, eq-eqb, ne-eqb, ltb-true, ltb-false, eqb-true, leb-true, leb-false, eqb-false}
-use Rattle.float_format.specs.Format.{Format, signBit, topField, infinity, negative, unsigned, signed, negated}
-use Rattle.float_format.specs.Number.{magnitude, encode, bias, one, above, under, unitsOf}
+use Rattle.float_format.specs.Format.{Format, infinity, negative, unsigned, signed}
+use Rattle.float_format.specs.Number.{magnitude, encode, bias, unitsOf}
 use Rattle.float_format.specs.Rounding.{parts, nearest, capped, rounded}
 use Rattle.float_format.specs.declared.Direction.the-variants.{HalfEven}
-use Rattle.float_format.proofs.Units.{lt-or-ge, three-way, magnitude-mono, magnitude-cancel, magnitude-mono-le}
+use Rattle.float_format.proofs.Units.{lt-or-ge, magnitude-cancel, magnitude-mono-le}
 use Rattle.float_format.proofs.Parts.{parts-at, ltb-scale}
 use Rattle.float_format.proofs.Whole.{power-up}
 use Rattle.float_format.proofs.Integral.{room}

@@ -1,10 +1,10 @@
 -- What a sheet needs of sums and products: no NaN, monotone in each operand, and a product lies between products of the ends. Over every
--- valid format; `Bridge` says that these are the language's own operations. Assumes nothing.
+-- valid format; `Language` says that these are the language's own operations. Assumes nothing.
 use mathlib.Core.Path.{_≡_, refl, sym, ap, _∙_}
-use mathlib.Core.Bool.{Bool, true, false, not, _&&_, _||_, true≢false, false≢true, cond}
+use mathlib.Core.Bool.{Bool, true, false, _&&_, _||_, true≢false, false≢true, cond}
 use mathlib.Core.Logic.{_⊎_, inl, inr, ⊎-elim}
 use Prim.Native.Nat.{ℕ, suc, _+_, _-_, _*_, _/_, _%_, _^_, _≤_, _<_}
-use native.Mathlib.Nat.{mul-le-mul-left, mul-le-mul-right, add-comm, mul-comm, mul-assoc, mul-mod-left, mul-sub, mul-mul-mul-comm, div-add-mod', eq-or-lt-of-le}
+use native.Mathlib.Nat.{mul-le-mul-right, add-comm, mul-comm, mul-assoc, mul-mod-left, mul-sub, mul-mul-mul-comm, div-add-mod', eq-or-lt-of-le}
 use native.Mathlib.Omega.{arith}
 use lib.Dec.{ltb}
 use lib.Pow.{pow-pos, pow-add}

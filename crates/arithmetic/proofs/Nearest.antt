@@ -4,15 +4,13 @@
 use mathlib.Core.Path.{_≡_, refl, sym, ap, _∙_}
 use mathlib.Core.Bool.{Bool, true, false, _&&_, _||_, cond}
 use mathlib.Core.Logic.{_⊎_, _↔_}
-use Prim.Native.Nat.{ℕ, _+_, _-_, _*_, _%_, _^_, _≤_, _<_}
+use Prim.Native.Nat.{ℕ, _+_, _-_, _*_, _%_, _≤_, _<_}
 use native.Mathlib.Omega.{arith}
 use lib.Dec.{ltb}
 use lib.Ieee.{unlike}
 use lib.Pow.{pow-pos}
-use borrow.Author.Tests.{lt-ltb, le-ltb}
 use Rattle.float_format.specs.Format.{Format, Valid, infinity, negative, unsigned, negated}
 use Rattle.float_format.specs.Number.{magnitude, unitsOf, bias, one, above, under, distance}
-use Rattle.float_format.specs.Rounding.{rounded}
 use Rattle.float_format.proofs.Order.{above-at, under-at, above-negated, under-negated}
 use Rattle.float_format.proofs.Rounded.{gap, largest, rounded-sign, rounded-no-nearer, rounded-halves, rounded-from-halfway}
 use Rattle.arithmetic.specs.Arithmetic.{sum, difference, product}

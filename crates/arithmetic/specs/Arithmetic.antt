@@ -2,7 +2,7 @@
 -- units as any other does, so that each is defined on all patterns; the step rules refuse an infinite operand before they come to it.
 -- Definitions only; assumes nothing.
 use mathlib.Core.Bool.{Bool, _&&_, _||_}
-use Prim.Native.Nat.{ℕ, _+_, _-_, _*_}
+use Prim.Native.Nat.{ℕ, _+_, _*_}
 use lib.Dec.{ltb}
 use lib.Ieee.{unlike}
 use Rattle.float_format.specs.Format.{Format, negative, negated}

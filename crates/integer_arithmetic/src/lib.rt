@@ -6,14 +6,14 @@
 // `exponent` are a format's field sizes, which binary64 hands over as numbers, so that the compiler folds them. A pattern that is not finite
 // counts by its units, as in the definitions.
 ghost use mathlib.Core.Path.{_≡_};
-ghost use mathlib.Core.Bool.{Bool, false};
+ghost use mathlib.Core.Bool.{Bool};
 ghost use mathlib.Core.Logic.{_⊎_};
 ghost use Prim.Native.Nat.{ℕ, _+_, _-_, _*_, _^_, _<_, _≤_};
 ghost use lib.Ieee.{unlike};
 ghost use Rattle.float_format.specs.Format.{signBit, infinity, negative, unsigned, signed};
 ghost use Rattle.float_format.specs.Number.{magnitude, one};
 ghost use Rattle.float_format.specs.Rounding.{capped, rounded};
-ghost use Rattle.float_format.specs.Width.{format, InWord};
+ghost use Rattle.float_format.specs.Width.{format};
 ghost use Rattle.arithmetic.specs.Arithmetic.{sum, product};
 ghost use Rattle.integer_arithmetic.specs.Stands.{Fits, Sticky, Stands, Scaled, Led, Aligned};
 use float_format::width::bias_of;

@@ -2,7 +2,7 @@
 // refusals 20 to 22 as stated for the sheet.
 ghost use mathlib.Core.Path.{_≡_};
 ghost use mathlib.Core.Bool.{_||_, cond};
-ghost use Rattle.float_format.specs.Format.{binary64, isInfinite};
+ghost use Rattle.float_format.specs.Format.{binary64};
 ghost use Rattle.semantics.specs.Range.{doubles, wholes, infiniteEnd, holdsZero, greatest, isNegative, isPositive, fractionLow, fractionHigh, absoluteRange, fmodLow, fmodHigh, fmodRange, ldexpRange, remainderRange, sumLow, sumHigh, differenceLow, differenceHigh, productLow, productHigh, workedRange, stepRange};
 ghost use Rattle.semantics.specs.Range as range;
 ghost use Rattle.values.specs.Seen.{outcomeOf, RealOutcome};

@@ -1,8 +1,8 @@
 -- `cut` meets its contract. Assumes nothing.
-use mathlib.Core.Path.{_≡_, refl, sym, ap, _∙_}
-use Prim.Native.Nat.{ℕ, _+_, _-_, _*_, _/_, _%_, _^_, _≤_, _<_}
+use mathlib.Core.Path.{_≡_, refl, sym, _∙_}
+use Prim.Native.Nat.{_+_, _-_, _*_, _^_, _≤_}
 use native.Mathlib.Omega.{arith}
-use Rattle.float_format.specs.Format.{Format, signBit, negative, unsigned, signed}
+use Rattle.float_format.specs.Format.{Format}
 use Rattle.float_format.specs.Width.{format}
 use Rattle.float_format.proofs.Sizes.{sizes}
 use Rattle.float_format.proofs.Rounded.{capped-in, capped-out}

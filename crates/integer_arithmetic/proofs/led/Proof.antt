@@ -1,8 +1,7 @@
 -- `led` meets its contract. Assumes nothing.
-use mathlib.Core.Path.{_≡_, refl, sym, ap, _∙_}
-use Prim.Native.Nat.{ℕ, _+_, _-_, _*_, _/_, _%_, _^_, _≤_, _<_}
+use Prim.Native.Nat.{_-_, _^_, _≤_}
 use native.Mathlib.Omega.{arith}
-use lib.Pow.{pow-pos, pow-mono}
+use lib.Pow.{pow-mono}
 use Rattle.float_format.specs.Format.{Format}
 use Rattle.float_format.specs.Width.{format}
 use Rattle.integer_arithmetic.proofs.Words.{led-subnormal, led-normal}

@@ -1,10 +1,10 @@
 -- `ordered` meets its contract. Assumes nothing.
 use mathlib.Core.Path.{_≡_, refl, sym, ap, _∙_}
-use mathlib.Core.Bool.{Bool, not}
-use mathlib.Core.Logic.{_⊎_, inl, inr, ⊎-elim}
-use Prim.Native.Nat.{ℕ, _+_, _-_, _*_, _/_, _%_, _^_, _≤_, _<_}
+use mathlib.Core.Bool.{not}
+use mathlib.Core.Logic.{_⊎_, ⊎-elim}
+use Prim.Native.Nat.{ℕ, _+_, _-_}
 use native.Mathlib.Omega.{arith}
-use Rattle.float_format.specs.Format.{Format, signBit, negative, unsigned, signed}
+use Rattle.float_format.specs.Format.{Format, negative}
 use Rattle.float_format.specs.Width.{format}
 use Rattle.float_format.proofs.Sizes.{zero-is}
 use Rattle.integer_arithmetic.proofs.Words.{like, opposite, with-rest, rest-fits}

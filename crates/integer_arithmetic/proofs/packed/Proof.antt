@@ -1,8 +1,8 @@
 -- `packed` meets its contract. Assumes nothing.
-use mathlib.Core.Path.{_≡_, refl, sym, ap, _∙_}
-use Prim.Native.Nat.{ℕ, _+_, _-_, _*_, _/_, _%_, _^_, _≤_, _<_}
+use mathlib.Core.Path.{_≡_, ap, _∙_}
+use Prim.Native.Nat.{ℕ, _+_, _-_, _*_, _^_}
 use native.Mathlib.Omega.{arith}
-use Rattle.float_format.specs.Format.{Format, signBit, negative, unsigned, signed}
+use Rattle.float_format.specs.Format.{Format}
 use Rattle.float_format.specs.Width.{format}
 use Rattle.float_format.specs.Rounding.{parts, capped}
 use Rattle.float_format.specs.declared.Direction.the-variants.{HalfEven}

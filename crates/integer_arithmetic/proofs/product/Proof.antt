@@ -1,12 +1,10 @@
 -- `product` meets its contract. Assumes nothing.
-use mathlib.Core.Path.{_≡_, refl, sym, ap, _∙_}
-use Prim.Native.Nat.{ℕ, _+_, _-_, _*_, _/_, _%_, _^_, _≤_, _<_}
+use mathlib.Core.Path.{sym, ap, _∙_}
+use Prim.Native.Nat.{ℕ, _+_, _-_}
 use native.Mathlib.Omega.{arith}
 use lib.Ieee.{unlike}
-use Rattle.float_format.specs.Format.{Format, signBit, negative, unsigned, signed}
+use Rattle.float_format.specs.Format.{Format, negative}
 use Rattle.float_format.specs.Width.{format}
-use Rattle.float_format.specs.Number.{magnitude, one}
-use Rattle.float_format.specs.Rounding.{rounded}
 use Rattle.float_format.proofs.Patterns.{below-sign}
 use Rattle.integer_arithmetic.proofs.Products.{product-answer, product-left, product-right}
 use Rattle.integer_arithmetic.proofs.Words.{sum-fits}

@@ -12,7 +12,7 @@ use Rattle.semantics.specs.Value.{Datum, double, asDouble, worked}
 use Rattle.semantics.specs.Range.{Range, doubles, low, high, ranged, infiniteEnd, sumLow, sumHigh, differenceLow, differenceHigh, productLow, productHigh, workedRange, sumRange, differenceRange, productRange, infiniteSum, infiniteDifference, infiniteProduct}
 use Rattle.semantics.specs.Range as range
 use Rattle.semantics.specs.Promise.{Lies, Proper}
-use Rattle.semantics.proofs.Sound.Kept.{no-or, Held, Kept, Between, valid, number-of, held-double, between}
+use Rattle.semantics.proofs.Sound.Kept.{no-or, Kept, Between, valid, number-of, held-double, between}
 use Rattle.semantics.proofs.Sound.Floats.{between-finite}
 use Rattle.semantics.proofs.Sound.Fractions.{finite-end}
 use Rattle.semantics.proofs.Sound.Products.{Spans, not-infinite, product-real, end-products, infinite-products}

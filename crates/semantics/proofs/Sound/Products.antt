@@ -16,7 +16,7 @@ use Rattle.ordering.proofs.MinMax.{fmin-first, fmax-first}
 use Rattle.arithmetic.specs.Arithmetic.{product}
 use Rattle.arithmetic.proofs.Laws.{OneOf, is-p, is-q, is-r, is-s, product-number}
 use Rattle.semantics.specs.Range.{Range, low, high, productLow, productHigh, infiniteProduct}
-use Rattle.semantics.proofs.Sound.Kept.{no-or, number-of}
+use Rattle.semantics.proofs.Sound.Kept.{number-of}
 use Rattle.semantics.proofs.Sound.Floats.{between-finite, fmin-number, fmax-number}
 use Rattle.semantics.proofs.Sound.Fractions.{finite-end}
 
