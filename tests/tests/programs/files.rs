@@ -65,10 +65,14 @@ fn the_examples() {
                 EXPLAIN.prints(read("mended"), "00\n");
                 RUN.prints(input("mended"), &read("mended_answers"));
             }
+            if example.join("unbounded").exists() {
+                SHEET.prints(read("unbounded"), &read("unbounded_sheet"));
+                EXPLAIN.prints(read("unbounded"), &read("unbounded_explanation"));
+            }
             found += 1;
         }
     }
-    assert_eq!(found, 9);
+    assert_eq!(found, 12);
 }
 
 /// Bytes of all values, among which line feeds and digits are common or not.
