@@ -111,7 +111,7 @@ build/halves: tests/c/halves.c $(LIBRARY) $(HEADER)
 	$(CC) -std=c99 $(CFLAGS) $(WARNINGS) -Ibuild tests/c/halves.c $(LIBRARY) -lm -o $@
 
 # fmin and fmax beside glibc's and the processor's. The compiler must call the C library's, and not work them out by itself.
-build/peers: tests/c/peers.c $(LIBRARY) $(HEADER)
+build/peers: tests/c/peers.c tests/c/random.h $(LIBRARY) $(HEADER)
 	@$(call need,$(CC),compile the C tests)
 	$(CC) -std=c99 $(CFLAGS) -fno-builtin $(WARNINGS) -Ibuild tests/c/peers.c $(LIBRARY) -lm -o $@
 
@@ -119,7 +119,7 @@ test-peers: build/peers  ## hold fmin and fmax beside glibc's and the processor'
 	build/peers
 
 # Sums, differences and products beside the processor's own.
-build/arithmetic: tests/c/arithmetic.c tests/c/cross_check.h $(CROSS_CHECK) $(HEADER)
+build/arithmetic: tests/c/arithmetic.c tests/c/cross_check.h tests/c/random.h $(CROSS_CHECK) $(HEADER)
 	@$(call need,$(CC),compile the C tests)
 	$(CC) -std=c99 $(CFLAGS) $(WARNINGS) -Ibuild tests/c/arithmetic.c $(CROSS_CHECK) -o $@
 

@@ -24,8 +24,8 @@ static const double BESIDE_HOST = 6.0;
     OPERATION(difference) \
     OPERATION(product)
 
-/* And with subnormal numbers. A product with one takes many processors long: there it may not take longer. Of two the product is a zero, which takes
- * them no longer than any other: there the limit is that of normal numbers. */
+/* And with subnormal numbers. A product with one takes many processors long: there it may not take longer. Of two the product is a zero, which
+ * need not take long: there the limit is that of normal numbers. */
 static const struct {
     const char *name, *what;
     int set;

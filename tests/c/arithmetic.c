@@ -14,6 +14,7 @@
 #include <string.h>
 
 #include "cross_check.h"
+#include "random.h"
 #include "estrenwind.h"
 
 enum { PAIRS = 35000000, LEAST = 10000 };
@@ -254,15 +255,6 @@ static void count_sorts(int o, uint64_t x, uint64_t y)
 }
 
 /* ---- Pairs ---- */
-
-static uint64_t random_bits(void)
-{
-    static uint64_t state = 88172645463325252u;
-    state ^= state << 13;
-    state ^= state >> 7;
-    state ^= state << 17;
-    return state * UINT64_C(0x2545f4914f6cdd1d);
-}
 
 static uint64_t below(uint64_t limit) { return (random_bits() >> 32) * limit >> 32; }
 

@@ -16,6 +16,7 @@
 #include <stdio.h>
 
 #include "estrenwind.h"
+#include "random.h"
 
 /* ---- The others ---- */
 
@@ -158,15 +159,6 @@ static void find_edges(const width *w)
     edge(w, infinity_of(w) + unit / 2 - 1);
     edge(w, infinity_of(w) + unit / 2);
     edge(w, infinity_of(w) + unit - 1);
-}
-
-static uint64_t random_bits(void)
-{
-    static uint64_t state = 88172645463325252u;
-    state ^= state << 13;
-    state ^= state >> 7;
-    state ^= state << 17;
-    return state * UINT64_C(0x2545f4914f6cdd1d);
 }
 
 static uint64_t random_pattern(const width *w) { return random_bits() >> (64 - w->bits); }
