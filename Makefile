@@ -1,7 +1,7 @@
 # Estrenwind: proved rounding of IEEE 754 numbers, delivered as build/libestrenwind.a, build/estrenwind.h, the programs build/sheet,
 # build/run and build/explain, and the command build/estrenwind over the library.
 
-VERSION = 0.3.0
+VERSION = 0.2.0
 PREFIX = /usr/local
 DESTDIR =
 

@@ -31,27 +31,21 @@ extern "C" {
 
 /* ---- Version and sizes ---- */
 
-#define EW_VERSION "0.3.0"
+#define EW_VERSION "0.2.0"
 #define EW_VERSION_MAJOR 0
-#define EW_VERSION_MINOR 3
+#define EW_VERSION_MINOR 2
 #define EW_VERSION_PATCH 0
 
-/*
- * What recipes, frames and sheets measure, in bytes where nothing else is said. A line's length counts its line feed. A recipe is in the
- * short form or in the long one, as its first line feed tells: ew_run has both.
- */
-#define EW_MOST_STEPS 512                                   /* steps of the longest recipe: words that are enough for every ew_run */
-#define EW_MOST_SHORT_STEPS 128                             /* those of the longest in the short form */
-#define EW_MOST_INPUTS 16                                   /* inputs of a recipe, in either form */
-#define EW_RECIPE_LINE 39                                   /* a recipe in the short form, per step */
-#define EW_LONG_RECIPE_LINE 43                              /* one in the long form */
-#define EW_SHEET_LINE 39                                    /* the sheet of a recipe in the short form, per step */
-#define EW_LONG_SHEET_LINE 41                               /* that of one in the long form */
-#define EW_FRAME_INPUT 16                                   /* a frame, per input */
-#define EW_ANSWER_LINE 19                                   /* the longest answer to a frame line */
-#define EW_MOST_TEXT (EW_MOST_STEPS * EW_LONG_RECIPE_LINE)  /* 22016: the longest recipe */
-#define EW_MOST_SHEET (EW_MOST_STEPS * EW_LONG_SHEET_LINE)  /* 20992: memory that is enough for every ew_sheet */
-#define EW_MOST_FRAME (EW_MOST_INPUTS * EW_FRAME_INPUT)     /* 256: the longest frame */
+/* What recipes, frames and sheets measure, in bytes where nothing else is said. A line's length counts its line feed. */
+#define EW_MOST_STEPS 128                                /* steps of the longest recipe: words that are enough for every ew_run */
+#define EW_MOST_INPUTS 16                                /* inputs of a recipe */
+#define EW_RECIPE_LINE 39                                /* a recipe, per step */
+#define EW_SHEET_LINE 39                                 /* a sheet, per step */
+#define EW_FRAME_INPUT 16                                /* a frame, per input */
+#define EW_ANSWER_LINE 19                                /* the longest answer to a frame line */
+#define EW_MOST_TEXT (EW_MOST_STEPS * EW_RECIPE_LINE)    /* 4992: the longest recipe */
+#define EW_MOST_SHEET (EW_MOST_STEPS * EW_SHEET_LINE)    /* 4992: memory that is enough for every ew_sheet */
+#define EW_MOST_FRAME (EW_MOST_INPUTS * EW_FRAME_INPUT)  /* 256: the longest frame */
 
 /* ---- Bits and values ---- */
 
@@ -71,7 +65,7 @@ enum {
     EW_REFUSED_RANGE = 3,   /* the result is infinite or does not fit */
 
     /* A recipe's text; the place is the step's number, but 0 for the length. */
-    EW_REFUSED_LENGTH = 10,   /* the first line feed tells no form, or the text is not whole lines of that form, or has too many */
+    EW_REFUSED_LENGTH = 10,   /* no line, not whole lines of 39 bytes, or more than 128 */
     EW_REFUSED_DIGIT = 11,    /* not a lower-case hexadecimal digit, or a line without its line feed */
     EW_REFUSED_OPCODE = 12,   /* an opcode that there is not */
     EW_REFUSED_UNUSED = 13,   /* a field that the step does not use is not zero */
@@ -484,8 +478,8 @@ static inline float ew_fmaxf(float x, float y) { return ew_value_f32(ew_fmax_f32
  *                may be NULL.
  *     Overlap    The lent memory (sheet, words, answers) must not overlap the text, the frame or the lines. These may overlap.
  *     Alignment  words is aligned as uint64_t is. Text, frame, lines, sheet and answers may start anywhere.
- *     Stack      40 KiB are enough for each on every recipe, with what the dynamic linker takes of it to bind memcpy at its
- *                first call.
+ *     Stack      On the longest recipe ew_run uses 6 KiB, the others 7 KiB. 12 KiB are enough for each, with what
+ *                the dynamic linker takes of it to bind memcpy at its first call.
  */
 
 /* The kind of a step's value. */
@@ -498,31 +492,13 @@ enum {
 typedef struct { uint64_t refusal, place, steps; } ew_sheet_answer;
 
 /*
- * ew_sheet_line returns the bytes of a line of the sheet that ew_sheet writes for a text: EW_LONG_SHEET_LINE where the text is in the long
- * form, which is where its first line feed is byte 42, counted from 0; else EW_SHEET_LINE. So the line of step k begins at
- * sheet[k * ew_sheet_line(text, text_len)], and a recipe of n steps needs n times as many bytes.
- *
- *     ew_sheet_line("10000000000000000000000000000000000000\n", 39) = 39
- *     ew_sheet_line("100000000000000000000000000000000000000000\n", 43) = 41
- */
-static inline size_t ew_sheet_line(const uint8_t *text, size_t text_len)
-{
-    size_t feed = 0; /* as many bytes as stand before the first line feed: no more than 43 are looked at */
-    while (feed < EW_LONG_RECIPE_LINE && feed < text_len && text[feed] != 10)
-        feed++;
-    return feed == EW_LONG_RECIPE_LINE - 1 && feed < text_len ? EW_LONG_SHEET_LINE : EW_SHEET_LINE;
-}
-
-/*
  * ew_sheet works out, from the ranges that a recipe declares for its inputs, a range for every step and whether its value is whole, and
- * writes one line per step to sheet: step 2 lower-case hexadecimal digits, kind 2, mark 2, low 16, high 16, a line feed. That is
- * EW_SHEET_LINE bytes. Of a recipe in the long form the step has 4 digits, and a line EW_LONG_SHEET_LINE bytes. Memory past the last line
- * stays as it was.
+ * writes one line per step to sheet, EW_SHEET_LINE bytes each: step 2 lower-case hexadecimal digits, kind 2, mark 2, low 16, high 16, a line
+ * feed. Memory past the last line stays as it was.
  *
  * A passed sheet (refusal 0) is a promise, and proved: of any frame that is refused nothing of 30, 31 and 32, ew_run, given room, completes,
  * and every step's value has the kind and lies in the range that its line shows, both ends included. Where a double's mark is 01, its value
- * is also finite and has no fraction; 00 promises nothing of that. With a line of L bytes, as ew_sheet_line gives it, the mark of step k is 01
- * where sheet[k * L + L - 34] is '1'.
+ * is also finite and has no fraction; 00 promises nothing of that. The mark of step k is 01 where sheet[k * EW_SHEET_LINE + 5] is '1'.
  *
  * Marked 01 are, by their opcodes, and all others are 00:
  *     every step of kind EW_WHOLE
@@ -533,8 +509,8 @@ static inline size_t ew_sheet_line(const uint8_t *text, size_t text_len)
  *     20, 21, 22 and 24, fmin, fmax, fmod and remainder, where A and B are
  *     40, 41 and 42, add, subtract and multiply, where A and B are
  *
- * Refuses 10 to 17 for the text, 40 where sheet has fewer bytes than its lines, and 20 to 22 for a step some of whose values ew_run might
- * refuse: the first in that order, and no byte is written.
+ * Refuses 10 to 17 for the text, 40 where sheet has fewer than EW_SHEET_LINE bytes per step, and 20 to 22 for a step some of whose values
+ * ew_run might refuse: the first in that order, and no byte is written.
  */
 ew_sheet_answer ew_sheet(const uint8_t *text, size_t text_len, uint8_t *sheet, size_t sheet_len);
 
@@ -585,11 +561,8 @@ typedef struct { uint64_t refusal, place, kind, word; } ew_run_answer;
  * ew_run works out every step of a recipe on one frame, and writes each step's 64 bits to words, in step order: a double's pattern,
  * a whole number's two's complement. Memory past the last step's word stays as it was.
  *
- * A recipe is one line per step, of lower-case hexadecimal digits and a line feed, in one of two forms:
- *     short   opcode 2 digits, A 2, B 2, P 16, Q 16: EW_RECIPE_LINE bytes, 1 to EW_MOST_SHORT_STEPS lines
- *     long    opcode 2 digits, A 4, B 4, P 16, Q 16: EW_LONG_RECIPE_LINE bytes, 1 to EW_MOST_STEPS lines
- * The first line feed of the text tells which: byte 38, counted from 0, the short form, byte 42 the long one, and any other place, or none,
- * no form, which is refused with 10. Both forms are read to the same steps. A frame is EW_FRAME_INPUT digits per input, run together.
+ * A recipe is one line of EW_RECIPE_LINE bytes per step: opcode 2 lower-case hexadecimal digits, A 2, B 2, P 16, Q 16, a line feed. A frame
+ * is EW_FRAME_INPUT digits per input, run together.
  *
  * The opcodes, and what they work on:
  *     01, 02           an input from P to Q: a double, a whole number
@@ -618,8 +591,8 @@ typedef struct { uint64_t refusal, place, read, written; } ew_lines_answer;
 /*
  * ew_run_lines answers frame lines as the program run does, and reads the recipe once for all of them. A line counts where its line feed is
  * there. Each is answered by one line: kind 2 lower-case hexadecimal digits and word 16; or ff, a refusal's number 2 digits and its place
- * 2, 4 where the recipe is in the long form. A refused frame does not stop the next. It goes on while EW_ANSWER_LINE bytes of answers are
- * left. Memory past the last answer stays as it was.
+ * 2, and a refused frame does not stop the next. It goes on while EW_ANSWER_LINE bytes of answers are left. Memory past the last answer stays
+ * as it was.
  *
  * What was not read is there for the next call, with the lines that follow it: the answers one after another are those of run. Where lines
  * has a line feed at least one line is answered. A last line that lacks its line feed is the caller's to end.

@@ -723,103 +723,6 @@ static void check_explain(void)
     check("explain reason", 3, e.reason, EW_REASON_NONE);
 }
 
-/* Document 01's recipe in the long form, its sheet, and its answers to the same frames. */
-static const char long_recipe[] = "0100000000c004000000000000401d000000000000\n"
-                                  "100000000000000000000000000000000000000000\n"
-                                  "180001000000000000000000000000000000000000\n";
-static const char long_lines[] = "00000100c004000000000000401d000000000000\n"
-                                 "00010101c008000000000000401c000000000000\n"
-                                 "00020201fffffffffffffffd0000000000000007\n";
-static const char long_answered[] = "02ffffffffffffffff\nff200000\n";
-
-static void check_long_form(void)
-{
-    const uint8_t *text = (const uint8_t *)long_recipe;
-    const size_t length = sizeof long_recipe - 1, room = sizeof long_lines - 1;
-    const size_t line = ew_sheet_line(text, length);
-    uint8_t sheet[sizeof long_lines + 1], answers[2 * EW_ANSWER_LINE + 1];
-    uint64_t words[3] = {5, 6, 7};
-    ew_run_answer r = ew_run(text, length, (const uint8_t *)"bfe0000000000000", 16, words, 3);
-    ew_sheet_answer s;
-    ew_lines_answer l;
-    size_t k;
-    check("long run refusal", 0, r.refusal, EW_ACCEPTED);
-    check("long run kind", 0, r.kind, EW_WHOLE);
-    check("long run words", 0, words[0], 0xbfe0000000000000);
-    check("long run words", 1, words[1], 0xbff0000000000000);
-    check("long run words", 2, words[2], 0xffffffffffffffff);
-    check("long run without room", 0, ew_run(text, length, (const uint8_t *)"bfe0000000000000", 16, words, 2).refusal, EW_REFUSED_ROOM);
-    memset(sheet, '#', sizeof sheet);
-    /* What is enough in the short form, and a byte less than is needed. */
-    check("long sheet refusal", 0, ew_sheet(text, length, sheet, (size_t)3 * EW_SHEET_LINE).refusal, EW_REFUSED_ROOM);
-    check("long sheet refusal", 1, ew_sheet(text, length, sheet, room - 1).refusal, EW_REFUSED_ROOM);
-    check("long sheet writes nothing", 0, sheet[0], '#');
-    s = ew_sheet(text, length, sheet, sizeof sheet);
-    check("long sheet refusal", 2, s.refusal, EW_ACCEPTED);
-    check("long sheet steps", 2, s.steps, 3);
-    check("long sheet lines", 2, memcmp(sheet, long_lines, room) == 0, 1);
-    check("long sheet leaves the rest", 2, sheet[room], '#');
-    check("room of a long sheet", 2, room, 3 * line);
-    for (k = 0; k < 3; k++)
-        check("long mark", k, sheet[k * line + line - 34], k == 0 ? '0' : '1');
-    memset(answers, '#', sizeof answers);
-    l = ew_run_lines(text, length, (const uint8_t *)frames, sizeof frames - 1, answers, sizeof answers);
-    check("long lines refusal", 0, l.refusal, EW_ACCEPTED);
-    check("long lines read", 0, l.read, sizeof frames - 1);
-    check("long lines written", 0, l.written, sizeof long_answered - 1);
-    check("long lines' answers", 0, memcmp(answers, long_answered, sizeof long_answered - 1) == 0, 1);
-    check("long lines leave the rest", 0, answers[sizeof long_answered - 1], '#');
-    check("long explanation", 0, ew_explain(text, length).reason, EW_REASON_NONE);
-    /* A byte less than whole lines; and texts that are cut off before their line feed, so that they tell no form. */
-    check("long text of another length", 0, ew_explain(text, length - 1).refusal, EW_REFUSED_LENGTH);
-    check("text without its line feed", 0, ew_explain(text, EW_LONG_RECIPE_LINE - 1).refusal, EW_REFUSED_LENGTH);
-    check("text without its line feed", 1, ew_explain((const uint8_t *)recipe, EW_RECIPE_LINE - 1).refusal, EW_REFUSED_LENGTH);
-}
-
-/* The longest recipe of each form, and one more step: a constant, and negations of it. */
-static void check_most_steps(void)
-{
-    static const struct {
-        const char *constant, *negated;
-        size_t line, sheet_line, most;
-    } forms[] = {
-        {"0300003ff00000000000000000000000000000\n", "17000000000000000000000000000000000000\n", EW_RECIPE_LINE, EW_SHEET_LINE, EW_MOST_SHORT_STEPS},
-        {"03000000003ff00000000000000000000000000000\n", "170000000000000000000000000000000000000000\n", EW_LONG_RECIPE_LINE, EW_LONG_SHEET_LINE,
-         EW_MOST_STEPS},
-    };
-    static uint8_t text[EW_MOST_TEXT + EW_LONG_RECIPE_LINE], sheet[EW_MOST_SHEET];
-    static uint64_t words[EW_MOST_STEPS];
-    size_t i, k;
-    for (i = 0; i < LENGTH(forms); i++) {
-        const size_t line = forms[i].line, most = forms[i].most, length = most * line, room = most * forms[i].sheet_line;
-        for (k = 0; k <= most; k++)
-            memcpy(text + k * line, k == 0 ? forms[i].constant : forms[i].negated, line);
-        check("sheet's line", i, ew_sheet_line(text, length), forms[i].sheet_line);
-        check("most steps' sheet", i, ew_sheet(text, length, sheet, room).steps, most);
-        check("most steps' sheet", i + 2, sheet[room - 1], '\n');
-        check("most steps' room", i, ew_sheet(text, length, sheet, room - 1).refusal, EW_REFUSED_ROOM);
-        check("most steps' run", i, ew_run(text, length, NULL, 0, words, most).word, 0xbff0000000000000);
-        check("most steps' words", i, ew_run(text, length, NULL, 0, words, most - 1).refusal, EW_REFUSED_ROOM);
-        check("most steps' explanation", i, ew_explain(text, length).refusal, EW_ACCEPTED);
-        check("a step too many", i, ew_explain(text, length + line).refusal, EW_REFUSED_LENGTH);
-        check("a step too many", i, ew_explain(text, length + line).place, 0);
-    }
-}
-
-/* The first line feed at every place, in texts of every length: byte 42 alone tells the long form. */
-static void check_sheet_line(void)
-{
-    uint8_t text[100];
-    size_t feed, length;
-    for (feed = 0; feed < sizeof text; feed++) {
-        memset(text, '0', feed);
-        memset(text + feed, '\n', sizeof text - feed);
-        for (length = 0; length <= sizeof text; length++)
-            check("sheet's line", 1000 * feed + length, ew_sheet_line(text, length), feed == 42 && length > 42 ? 41 : 39);
-    }
-    check("sheet's line of nothing", 0, ew_sheet_line(NULL, 0), EW_SHEET_LINE);
-}
-
 /* Steps 40 to 42 of two constants: the word, which both ends of the range are too, and the mark; or the refusal. */
 static const struct {
     const char *opcode;
@@ -982,7 +885,7 @@ static void check_addresses(void)
     }
 }
 
-/* The numbers of document 01 and of W-206, and a version that is its parts. The preprocessor can compute with all of them. */
+/* Document 01's numbers, and a version that is its parts. The preprocessor can compute with all of them. */
 #if EW_VERSION_MAJOR * 10000 + EW_VERSION_MINOR * 100 + EW_VERSION_PATCH < 100 || EW_MOST_TEXT < EW_MOST_SHEET
 #error "the version or a size is no number"
 #endif
@@ -992,17 +895,14 @@ static void check_constants(void)
     char version[40];
     snprintf(version, sizeof version, "%d.%d.%d", EW_VERSION_MAJOR, EW_VERSION_MINOR, EW_VERSION_PATCH);
     check("version " EW_VERSION, 0, strcmp(version, EW_VERSION) == 0, 1);
-    check("steps", 0, EW_MOST_STEPS, 512);
-    check("steps in the short form", 0, EW_MOST_SHORT_STEPS, 128);
+    check("steps", 0, EW_MOST_STEPS, 128);
     check("inputs", 0, EW_MOST_INPUTS, 16);
     check("recipe's line", 0, EW_RECIPE_LINE, 39);
-    check("recipe's line", 1, EW_LONG_RECIPE_LINE, 43);
     check("sheet's line", 0, EW_SHEET_LINE, 39);
-    check("sheet's line", 1, EW_LONG_SHEET_LINE, 41);
     check("digits per input", 0, EW_FRAME_INPUT, 16);
     check("longest answer", 0, EW_ANSWER_LINE, 19);
-    check("longest text", 0, EW_MOST_TEXT, 22016);
-    check("longest sheet", 0, EW_MOST_SHEET, 20992);
+    check("longest text", 0, EW_MOST_TEXT, 4992);
+    check("longest sheet", 0, EW_MOST_SHEET, 4992);
     check("longest frame", 0, EW_MOST_FRAME, 256);
 }
 
@@ -1012,7 +912,6 @@ int main(void)
     size_t i;
     check_constants();
     check_layout();
-    check_sheet_line();
 #ifdef __FAST_MATH__
     /* Without both bits this build would show nothing that the plain one does not. */
     check("MXCSR: FTZ and DAZ", 0, _mm_getcsr() & 0x8040, 0x8040);
@@ -1024,8 +923,6 @@ int main(void)
         check_lines();
         check_sheet();
         check_explain();
-        check_long_form();
-        check_most_steps();
         check_sums();
         check_sum_ranges();
         check_nothing();

@@ -337,18 +337,15 @@ static void print_lines(unsigned long number, const uint32_t lengths[2])
            (unsigned long long)r.written, (unsigned long long)hash);
 }
 
-/* A text that is no longer than every one in the short form is lent memory for as many lines alone: an emulator is slow. */
 static void print_sheet(unsigned long number, const uint32_t lengths[2])
 {
     static uint8_t sheet[EW_MOST_SHEET];
-    const size_t few = EW_MOST_SHORT_STEPS * EW_LONG_SHEET_LINE;
-    const size_t room = lengths[0] <= EW_MOST_SHORT_STEPS * EW_RECIPE_LINE ? few : sizeof sheet;
     uint64_t hash = 0;
     size_t i;
     ew_sheet_answer r;
-    memset(sheet, 0xa5, room);
-    r = ew_sheet(text, lengths[0], sheet, room);
-    for (i = 0; i < room; i++)
+    memset(sheet, 0xa5, sizeof sheet);
+    r = ew_sheet(text, lengths[0], sheet, sizeof sheet);
+    for (i = 0; i < sizeof sheet; i++)
         hash = hashed(hash, sheet[i]);
     printf("%08lu %llu %llu %llu %016llx\n", number, (unsigned long long)r.refusal, (unsigned long long)r.place, (unsigned long long)r.steps,
            (unsigned long long)hash);

@@ -1,37 +1,32 @@
 //! The programs `sheet` and `run` of document 01, "Sheet and run on paper", and `explain` of
-//! request W-205, each as a function from all bytes of its input to all bytes of its output, over
-//! recipes of both forms of request W-206.
+//! request W-205, each as a function from all bytes of its input to all bytes of its output.
 
-use crate::reference::recipe::form::{place_digits, LONGEST_SHEET};
-use crate::reference::recipe::text;
-use crate::reference::recipe::{explain, run, sheet, Explanation, Form, Recipe, Refusal, Way};
+use crate::reference::recipe::text::{self, MOST_STEPS};
+use crate::reference::recipe::{explain, run, sheet, Explanation, Refusal, Way};
 use std::io::{self, Read, Write};
 
-/// "The run program looks for its empty line in the first 22,017 bytes": as many as the longest
-/// recipe has, and the empty line's own line feed. It is a byte more than any recipe has, too: enough
-/// to see that a text is too long.
-const SEARCHED: usize = 22_017;
+/// Bytes among which the empty line after a recipe has to be found: as many as the longest recipe
+/// has, and the empty line's own line feed.
+const SEARCHED: usize = 4_993;
 
 /// Bytes of a frame line, its line feed not counted.
 const LONGEST_FRAME: usize = 256;
 
 /// "The sheet program reads a recipe from standard input, writes its sheet."
 pub fn sheet_output(way: Way, input: &[u8]) -> Vec<u8> {
-    let told = Form::told(input);
-    match (told, sheet::sheet(way, input, LONGEST_SHEET)) {
-        (Some(form), Ok(ranges)) => sheet::bytes(form, &ranges),
-        (None, Ok(_)) => panic!("an untold text is refused"),
-        (told, Err(refusal)) => refusal_line(told, refusal),
+    let room = MOST_STEPS * sheet::LINE;
+    match sheet::sheet(way, input, room) {
+        Ok(ranges) => sheet::bytes(&ranges),
+        Err(refusal) => refusal_line(refusal),
     }
 }
 
 /// "A program that reads as the sheet program does and writes one line": "the step, the operand's
 /// step and a reason code, two hex digits each, run together", "a passed recipe answers 00; a
-/// recipe refused earlier gives that refusal". The steps of a long text have 4 digits (W-206).
+/// recipe refused earlier gives that refusal".
 pub fn explain_output(way: Way, input: &[u8]) -> Vec<u8> {
-    let told = Form::told(input);
     match explain(way, input) {
-        Err(refusal) => refusal_line(told, refusal),
+        Err(refusal) => refusal_line(refusal),
         Ok(None) => line(format_args!("00")),
         Ok(Some(explanation)) => {
             let Explanation {
@@ -39,22 +34,18 @@ pub fn explain_output(way: Way, input: &[u8]) -> Vec<u8> {
                 operand,
                 code,
             } = explanation;
-            let digits = place_digits(told);
-            line(format_args!(
-                "{step:0digits$x}{operand:0digits$x}{code:02x}"
-            ))
+            line(format_args!("{step:02x}{operand:02x}{code:02x}"))
         }
     }
 }
 
 /// Answers the recipe on standard input to standard output, as a program over the reference.
 pub fn answer_recipe(output: fn(Way, &[u8]) -> Vec<u8>) {
+    /// One byte more than the longest recipe has: enough to see that a text is too long.
+    const ENOUGH: u64 = 4_993;
     let mut input = Vec::new();
     // An input that fails is taken to end there, and a failing output has nobody to tell.
-    let _ = io::stdin()
-        .lock()
-        .take(SEARCHED as u64)
-        .read_to_end(&mut input);
+    let _ = io::stdin().lock().take(ENOUGH).read_to_end(&mut input);
     let _ = io::stdout().write_all(&output(Way::Exact, &input));
 }
 
@@ -64,17 +55,13 @@ pub fn run_output(way: Way, input: &[u8]) -> Vec<u8> {
     let searched = &input[..input.len().min(SEARCHED)];
     let (recipe, frames) = match empty_line(searched) {
         Some(place) => (&input[..place], &input[place + 1..]),
-        // The input's first line feed is the recipe's, however far that goes on.
-        None if input.len() > SEARCHED => {
-            return refusal_line(Form::told(input), Refusal::whole_call(10))
-        }
+        None if input.len() > SEARCHED => return refusal_line(Refusal::whole_call(10)),
         None => (input, &[][..]),
     };
-    let recipe = match text::read(way, recipe) {
-        Ok(recipe) => recipe,
-        Err(refusal) => return refusal_line(Form::told(recipe), refusal),
-    };
-    let answers = lines(frames).map(|frame| answer_line(way, &recipe, frame));
+    if let Err(refusal) = text::steps(way, recipe) {
+        return refusal_line(refusal);
+    }
+    let answers = lines(frames).map(|frame| answer_line(way, recipe, frame));
     answers.collect::<Vec<_>>().concat()
 }
 
@@ -90,13 +77,12 @@ fn lines(frames: &[u8]) -> impl Iterator<Item = &[u8]> {
         .map(|line| line.strip_suffix(b"\n").unwrap_or(line))
 }
 
-fn answer_line(way: Way, recipe: &Recipe, frame: &[u8]) -> Vec<u8> {
-    let told = Some(recipe.form);
+fn answer_line(way: Way, recipe: &[u8], frame: &[u8]) -> Vec<u8> {
     if frame.len() > LONGEST_FRAME {
-        return refusal_line(told, Refusal::whole_call(30));
+        return refusal_line(Refusal::whole_call(30));
     }
-    match run::over(way, &recipe.steps, frame) {
-        Err(refusal) => refusal_line(told, refusal),
+    match run(way, recipe, frame, MOST_STEPS) {
+        Err(refusal) => refusal_line(refusal),
         Ok(values) => {
             let last = values.last().expect("a recipe has a step");
             line(format_args!("{:02x}{:016x}", last.kind as u8, last.word))
@@ -104,11 +90,9 @@ fn answer_line(way: Way, recipe: &Recipe, frame: &[u8]) -> Vec<u8> {
     }
 }
 
-/// "A refusal line is ff, number and place, two hex digits each"; the place has 4 where the text is
-/// told to be long, and 2 where nothing is told (W-206).
-fn refusal_line(told: Option<Form>, Refusal { number, place }: Refusal) -> Vec<u8> {
-    let digits = place_digits(told);
-    line(format_args!("ff{number:02x}{place:0digits$x}"))
+/// "A refusal line is ff, number and place, two hex digits each."
+fn refusal_line(Refusal { number, place }: Refusal) -> Vec<u8> {
+    line(format_args!("ff{number:02x}{place:02x}"))
 }
 
 fn line(text: std::fmt::Arguments) -> Vec<u8> {
@@ -127,37 +111,14 @@ mod tests {
 18010000000000000000000000000000000000
 ";
 
-    /// The same steps in the long form.
-    const LONG_RECIPE: &str = "\
-0100000000c004000000000000401d000000000000
-100000000000000000000000000000000000000000
-180001000000000000000000000000000000000000
-";
-
-    /// -0.5.
-    const FRAME: &str = "bfe0000000000000";
-
     fn answers(input: &str) -> String {
         String::from_utf8(run_output(Way::Exact, input.as_bytes())).unwrap()
     }
 
     #[test]
     fn the_example_of_document_01() {
-        let frames = format!("{FRAME}\n401e000000000000\n");
-        let input = format!("{RECIPE}\n{frames}");
+        let input = format!("{RECIPE}\nbfe0000000000000\n401e000000000000\n");
         assert_eq!(answers(&input), "02ffffffffffffffff\nff2000\n");
-        let input = format!("{LONG_RECIPE}\n{frames}");
-        assert_eq!(answers(&input), "02ffffffffffffffff\nff200000\n");
-    }
-
-    /// "41 bytes a sheet line".
-    #[test]
-    fn the_lines_of_a_long_sheet() {
-        let lines = "00000100c004000000000000401d000000000000\n\
-                     00010101c008000000000000401c000000000000\n\
-                     00020201fffffffffffffffd0000000000000007\n";
-        let output = sheet_output(Way::Exact, LONG_RECIPE.as_bytes());
-        assert_eq!(output, lines.as_bytes());
     }
 
     /// Lines of W-205: nothing to explain, a step, and a recipe refused earlier.
@@ -168,30 +129,17 @@ mod tests {
         assert_eq!(explain(&RECIPE.replace("401d", "7ff0")), b"020105\n");
         assert_eq!(explain(&RECIPE.replace("1801", "1802")), b"ff0e02\n");
         assert_eq!(explain(&format!("{RECIPE}\n")), b"ff0a00\n");
-        assert_eq!(explain(LONG_RECIPE), b"00\n");
-        assert_eq!(
-            explain(&LONG_RECIPE.replace("401d", "7ff0")),
-            b"0002000105\n"
-        );
-        assert_eq!(
-            explain(&LONG_RECIPE.replace("180001", "180002")),
-            b"ff0e0002\n"
-        );
-        assert_eq!(explain(&format!("{LONG_RECIPE}\n")), b"ff0a0000\n");
-        assert_eq!(explain(&LONG_RECIPE[1..]), b"ff0a00\n");
     }
 
     #[test]
     fn what_is_a_frame() {
-        for (recipe, refused) in [(RECIPE, "ff1e00\n"), (LONG_RECIPE, "ff1e0000\n")] {
-            assert_eq!(answers(recipe), "");
-            assert_eq!(answers(&format!("{recipe}\n")), "");
-            assert_eq!(answers(&format!("{recipe}\n\n")), refused);
-            assert_eq!(
-                answers(&format!("{recipe}\n\n{FRAME}")),
-                format!("{refused}02ffffffffffffffff\n")
-            );
-        }
+        assert_eq!(answers(RECIPE), "");
+        assert_eq!(answers(&format!("{RECIPE}\n")), "");
+        assert_eq!(answers(&format!("{RECIPE}\n\n")), "ff1e00\n");
+        assert_eq!(
+            answers(&format!("{RECIPE}\n\nbfe0000000000000")),
+            "ff1e00\n02ffffffffffffffff\n"
+        );
     }
 
     #[test]
@@ -199,32 +147,14 @@ mod tests {
         assert_eq!(answers(""), "ff0a00\n");
         assert_eq!(answers("\n"), "ff0a00\n");
         assert_eq!(answers(&RECIPE[..116]), "ff0a00\n");
-        assert_eq!(answers(&LONG_RECIPE[..128]), "ff0a0000\n");
         let longest = format!("{}{}", RECIPE, &RECIPE[39..78].repeat(125));
         assert_eq!(longest.len(), 4_992);
-        let longest_long = format!("{}{}", LONG_RECIPE, &LONG_RECIPE[43..86].repeat(509));
-        assert_eq!(longest_long.len(), 22_016);
-        for (longest, refused) in [(longest, "ff0a00\n"), (longest_long, "ff0a0000\n")] {
-            assert_eq!(answers(&longest), "");
-            assert_eq!(
-                answers(&format!("{longest}\n{FRAME}")),
-                "01bff0000000000000\n"
-            );
-            assert_eq!(answers(&format!("{longest}{FRAME}\n\n{FRAME}")), refused);
-        }
-    }
-
-    /// Where there is no empty line, the first line feed of the input tells the refusal's form.
-    #[test]
-    fn an_input_that_goes_on() {
-        let digits = "0".repeat(22_017);
-        for (start, refused) in [
-            ("", "ff0a00\n"),
-            (&RECIPE[..39], "ff0a00\n"),
-            (&LONG_RECIPE[..43], "ff0a0000\n"),
-            (&LONG_RECIPE[1..43], "ff0a00\n"),
-        ] {
-            assert_eq!(answers(&format!("{start}{digits}\n\n")), refused);
-        }
+        let frame = "bfe0000000000000";
+        assert_eq!(answers(&longest), "");
+        assert_eq!(
+            answers(&format!("{longest}\n{frame}")),
+            "01bff0000000000000\n"
+        );
+        assert_eq!(answers(&format!("{longest}{frame}\n\n{frame}")), "ff0a00\n");
     }
 }

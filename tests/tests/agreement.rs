@@ -34,6 +34,6 @@ fn on_a_million_random_patterns_by_the_authority() {
 }
 
 #[test]
-fn on_ten_million_random_patterns_by_the_short_way() {
+fn on_ten_million_random_patterns_by_the_short_form() {
     on_random_patterns(0x400, 10_000_000, |function| function.short);
 }

@@ -135,7 +135,7 @@ fn beside(reference: &[Reference; 3], [x, y]: [u64; 2]) -> Option<String> {
     })
 }
 
-/// A million pairs by the authority, six million by the short way.
+/// A million pairs by the authority, six million by the short form.
 #[test]
 fn as_the_reference_has_them() {
     for (reference, seeds) in [(&EXACT, 10), (&SHORT, 60)] {

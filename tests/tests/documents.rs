@@ -1,12 +1,11 @@
 //! The header, docs/FORMATS.md and the manual pages tell the same refusals, and their examples are what the
-//! programs print, in both forms of a recipe; the tables of docs/HALVES.md have the reference's answers. The
-//! tables of opcodes and of marks have every opcode once, and those of the forms the reference's sizes, as the
-//! header has. The version is the same wherever it stands. docs/CONTRACTS.md names every must-fail edit, and no
+//! programs print; the tables of docs/HALVES.md have the reference's answers. The tables of opcodes and of marks
+//! have every opcode once. The version is the same wherever it stands, and the header's sizes are the reference's. docs/CONTRACTS.md names every must-fail edit, and no
 //! other.
 
 use estrenwind_tests::answer::Answer;
 use estrenwind_tests::programs::{explain_output, run_output, sheet_output};
-use estrenwind_tests::reference::recipe::{form, frame, lines, text, Form, Kind, Way, OPERATIONS};
+use estrenwind_tests::reference::recipe::{frame, lines, sheet, text, Kind, Way, OPERATIONS};
 use estrenwind_tests::reference::{conversion, rounding, BINARY16, BINARY32};
 use std::collections::{BTreeMap, BTreeSet};
 use std::fs;
@@ -92,52 +91,32 @@ fn manual_pages_have_every_refusal_of_their_program() {
     }
 }
 
-/// The inputs between `<<'END'` and `END`, and the output after each, of a manual page's examples.
-fn examples(page: &str) -> Vec<(String, String)> {
+/// The input between `<<'END'` and `END`, and the output after it, of a manual page's example.
+fn example(page: &str) -> (String, String) {
     let page = read(page);
-    let example = |rest: &str| {
-        let (input, rest) = rest.split_once("END\n").expect("its input ends");
-        let (output, _) = rest.split_once(".fi\n").expect("its output ends");
-        (input.to_string(), output.to_string())
-    };
-    page.split("<<'END'\n").skip(1).map(example).collect()
+    let (_, rest) = page
+        .split_once("<<'END'\n")
+        .expect("the page has an example");
+    let (input, rest) = rest.split_once("END\n").expect("its input ends");
+    let (output, _) = rest.split_once(".fi\n").expect("its output ends");
+    (input.to_string(), output.to_string())
 }
 
-/// A text in the short form, rewritten in the long one; what follows an empty line stays.
-fn in_the_long_form(text: &str) -> String {
-    let (recipe, frames) = match text.split_once("\n\n") {
-        Some((recipe, frames)) => (recipe, format!("\n{frames}")),
-        None => (text.trim_end(), String::new()),
-    };
-    let line = |line: &str| {
-        let (opcode, a, b, rest) = (&line[..2], &line[2..4], &line[4..6], &line[6..]);
-        format!("{opcode}00{a}00{b}{rest}\n")
-    };
-    let recipe: String = recipe.lines().map(line).collect();
-    assert_eq!(Form::told(recipe.as_bytes()), Some(Form::Long));
-    recipe + &frames
-}
-
-/// Each page has an example in the short form and the same in the long one, and the program prints what it shows.
 #[test]
 fn examples_of_the_manual_pages() {
-    type Program = fn(Way, &[u8]) -> Vec<u8>;
-    let programs: [(&str, Program); 3] = [
-        ("man/sheet.1", sheet_output),
-        ("man/run.1", run_output),
-        ("man/explain.1", explain_output),
-    ];
-    for (page, program) in programs {
-        let examples = examples(page);
-        for (input, output) in &examples {
-            assert_eq!(program(Way::Exact, input.as_bytes()), output.as_bytes());
-        }
-        let [(short, _), (long, _)] = &examples[..] else {
-            panic!("{page} has other examples than two");
-        };
-        assert_eq!(Form::told(short.as_bytes()), Some(Form::Short), "{page}");
-        assert_eq!(*long, in_the_long_form(short), "{page}");
-    }
+    let (input, output) = example("man/sheet.1");
+    assert_eq!(
+        sheet_output(Way::Exact, input.as_bytes()),
+        output.as_bytes()
+    );
+    let (input, output) = example("man/run.1");
+    assert_eq!(run_output(Way::Exact, input.as_bytes()), output.as_bytes());
+    assert_eq!(output.lines().count(), 2);
+    let (input, output) = example("man/explain.1");
+    assert_eq!(
+        explain_output(Way::Exact, input.as_bytes()),
+        output.as_bytes()
+    );
 }
 
 /// The recipes that docs/FORMATS.md has for the reasons, each under the line that explains it.
@@ -177,11 +156,6 @@ fn every_reason_is_told_of() {
             format!("{line}\n").as_bytes()
         );
         assert!(line.ends_with(&format!("{code:02x}")), "{line}");
-        let (step, operand) = (&line[..2], &line[2..4]);
-        assert_eq!(
-            explain_output(Way::Exact, in_the_long_form(recipe).as_bytes()),
-            format!("00{step}00{operand}{code:02x}\n").as_bytes()
-        );
         assert!(
             header.contains(&format!(" = {code}, ")) || header.contains(&format!(" = {code} "))
         );
@@ -327,116 +301,6 @@ fn examples_of_formats() {
     assert_eq!(input.matches('\n').count(), 6);
     let answers = block("answers each frame with a line:\n", 2);
     assert_eq!(run_output(Way::Exact, input.as_bytes()), answers.as_bytes());
-
-    let long = block("### Short form and long form\n", 3);
-    assert_eq!(long, in_the_long_form(&recipe));
-    assert_eq!(
-        sheet_output(Way::Exact, long.as_bytes()),
-        block("has the step in 4 digits, and lines of 41 bytes:\n", 3).as_bytes()
-    );
-    let long_answers = run_output(Way::Exact, in_the_long_form(&input).as_bytes());
-    let long_answers = String::from_utf8(long_answers).unwrap();
-    let last = long_answers.lines().last().unwrap();
-    assert!(formats.contains(&format!("frame above is answered `{last}`")));
-}
-
-/// A number as people write it, with commas between thousands.
-fn grouped(number: usize) -> String {
-    match number / 1000 {
-        0 => number.to_string(),
-        thousands => format!("{thousands},{:03}", number % 1000),
-    }
-}
-
-/// docs/FORMATS.md, the manual pages, the rules and the header have the sizes of both forms, and none that was before there were two.
-#[test]
-fn both_forms_are_told_of() {
-    let [formats, rules, header, page] = [
-        "docs/FORMATS.md",
-        "docs/RULES.md",
-        "include/estrenwind.h",
-        "man/sheet.1",
-    ]
-    .map(read);
-    for (form, name) in [(Form::Short, "short"), (Form::Long, "long")] {
-        let (digits, line, most) = (form.digits(), form.line(), form.most_steps());
-        let longest = grouped(form.longest_text());
-        let before = line - 1;
-        let row =
-            format!("| {name} | byte {before} | {digits} | {before} | 1 to {most} | {longest} |");
-        assert!(formats.contains(&row), "docs/FORMATS.md: {row}");
-        let row = format!(
-            "{name}\t1 to {most}\topcode 2, A {digits}, B {digits}, P 16, Q 16: {before}\n"
-        );
-        assert!(page.contains(&row), "man/sheet.1: {row}");
-        let row = format!("| `refusal.10` | the {name} form is told");
-        let row = rules.lines().find(|line| line.starts_with(&row)).unwrap();
-        assert!(row.contains(&format!("no multiple of {line}, or over {longest} bytes |")));
-        let row = format!("opcode 2 digits, A {digits}, B {digits}, P 16, Q 16: EW_");
-        assert!(header.contains(&row), "the header: {row}");
-    }
-    let looked_at = grouped(form::LONGEST_TEXT + 1);
-    assert_eq!(looked_at, "22,017");
-    for name in ["docs/FORMATS.md", "man/run.1", "docs/RULES.md"] {
-        assert!(read(name).contains(&looked_at), "{name}: {looked_at}");
-    }
-    for name in [
-        "docs/FORMATS.md",
-        "include/estrenwind.h",
-        "man/sheet.1",
-        "man/run.1",
-        "man/explain.1",
-        "man/estrenwind.1",
-    ] {
-        let text = read(name);
-        for old in ["4,993", "4993", "4992"] {
-            assert!(!text.contains(old), "{name} has {old}");
-        }
-    }
-}
-
-/// The table of docs/FORMATS.md with a line about a recipe in either form is what the programs print, of the recipe whose divisor holds zero
-/// and of the shortest texts.
-#[test]
-fn lines_of_both_forms() {
-    let formats = read("docs/FORMATS.md");
-    let (_, section) = formats
-        .split_once("| | Short form | Long form |\n")
-        .expect("the table is there");
-    let cells = |start: &str| -> [String; 2] {
-        let row = section.lines().find(|row| row.starts_with(start)).unwrap();
-        let cells: Vec<&str> = row.split('|').map(str::trim).collect();
-        [cells[2], cells[3]].map(|cell| cell.split('`').nth(1).unwrap().to_string())
-    };
-    let output = |bytes: Vec<u8>| String::from_utf8(bytes).unwrap().trim_end().to_string();
-    let shown = |text: &str| output(sheet_output(Way::Exact, text.as_bytes()));
-    let explained_by = |text: &str| output(explain_output(Way::Exact, text.as_bytes()));
-    let (_, recipe) = &explained()[0];
-    let refused = [recipe.clone(), in_the_long_form(recipe)];
-    let of_refused =
-        |program: &dyn Fn(&str) -> String| refused.each_ref().map(|text| program(text));
-    assert_eq!(of_refused(&shown), cells("| refusal 20 at step 2 |"));
-    let why = "| why step 2 is refused: its operand step 1, code 01 |";
-    assert_eq!(of_refused(&explained_by), cells(why));
-    // Without its last step it passes.
-    let passing = refused.map(|text| {
-        let lines = text.split_inclusive('\n').take(2);
-        lines.collect::<String>()
-    });
-    let lines = passing.each_ref().map(|text| explained_by(text));
-    assert_eq!(lines, cells("| why, where the sheet passes |"));
-    let broken = passing.map(|text| shown(&format!("{text}0")));
-    assert_eq!(broken, cells("| refusal 10, place 0 |"));
-    assert_eq!(shown("0"), "ff0a00", "no form is told");
-    let last = Form::BOTH.map(|form| format!("{:01$x}", form.most_steps() - 1, form.digits()));
-    assert_eq!(last, cells("| last step of the longest recipe |"));
-    let (_, sheet) = formats.split_once("\n## Sheet\n").unwrap();
-    let lines = sheet.lines().map(str::trim);
-    let starts: Vec<&str> = lines
-        .filter(|line| line.starts_with("020201f") || line.starts_with("00020201f"))
-        .map(|line| &line[..line.len() - 32])
-        .collect();
-    assert_eq!(starts, cells("| line of a sheet, step 2 |"));
 }
 
 /// What stands behind a name that the header defines.
@@ -486,13 +350,10 @@ fn one_version() {
 #[test]
 fn sizes_are_the_reference_s() {
     for (name, size) in [
-        ("EW_MOST_STEPS", form::MOST_STEPS),
-        ("EW_MOST_SHORT_STEPS", Form::Short.most_steps()),
+        ("EW_MOST_STEPS", text::MOST_STEPS),
         ("EW_MOST_INPUTS", text::MOST_INPUTS),
-        ("EW_RECIPE_LINE", Form::Short.line()),
-        ("EW_LONG_RECIPE_LINE", Form::Long.line()),
-        ("EW_SHEET_LINE", Form::Short.sheet_line()),
-        ("EW_LONG_SHEET_LINE", Form::Long.sheet_line()),
+        ("EW_RECIPE_LINE", text::LINE),
+        ("EW_SHEET_LINE", sheet::LINE),
         ("EW_FRAME_INPUT", frame::DIGITS),
         ("EW_ANSWER_LINE", lines::LONGEST_ANSWER),
     ] {
@@ -500,8 +361,8 @@ fn sizes_are_the_reference_s() {
         assert_eq!(value.split(' ').next(), Some(size.to_string().as_str()));
     }
     for (name, size) in [
-        ("EW_MOST_TEXT", form::LONGEST_TEXT),
-        ("EW_MOST_SHEET", form::LONGEST_SHEET),
+        ("EW_MOST_TEXT", text::MOST_STEPS * text::LINE),
+        ("EW_MOST_SHEET", text::MOST_STEPS * sheet::LINE),
         ("EW_MOST_FRAME", text::MOST_INPUTS * frame::DIGITS),
     ] {
         let value = defined(name);
@@ -687,11 +548,10 @@ fn no_sheet_line_without_a_mark() {
         for word in text.split(|c: char| !c.is_ascii_alphanumeric()) {
             let is_hex = word.bytes().all(|byte| byte.is_ascii_hexdigit());
             assert!(!(is_hex && word.len() == 36), "{name}: {word}");
-            // A line of a recipe or of a sheet in the short form, of a sheet and of a recipe in the long form.
-            lines += usize::from(is_hex && [38, 40, 42].contains(&word.len()));
+            lines += usize::from(is_hex && word.len() == 38);
         }
     }
-    assert!(lines > 800, "{lines} lines of recipes and sheets");
+    assert!(lines > 200, "{lines} lines of recipes and sheets");
 }
 
 #[test]

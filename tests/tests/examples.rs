@@ -1,10 +1,10 @@
 //! The folders of examples/: what stands in `sheet`, `explanation` and `answers` is what the
 //! reference gives for `recipe` and `frames`, a mended recipe's sheet passes, and so does that of a
-//! variant, and the README shows every line of them, but for the long example's, of which it shows some
-//! and says how the others follow. The programs in C compile, and one prints what a README shows.
+//! variant, and the README shows every line of them. The programs in C compile, and one prints what a
+//! README shows.
 
 use estrenwind_tests::programs::{explain_output, run_output, sheet_output};
-use estrenwind_tests::reference::recipe::{Form, Way};
+use estrenwind_tests::reference::recipe::Way;
 use std::fs;
 use std::path::{Path, PathBuf};
 use std::process::Command;
@@ -44,18 +44,6 @@ fn text(bytes: Vec<u8>) -> String {
     String::from_utf8(bytes).unwrap()
 }
 
-/// The one whose recipe is in the long form.
-fn ocean_swell() -> PathBuf {
-    let is_long = |example: &PathBuf| {
-        let recipe = read(example, "recipe");
-        Form::told(recipe.as_bytes()) == Some(Form::Long)
-    };
-    let long: Vec<PathBuf> = examples().into_iter().filter(is_long).collect();
-    assert_eq!(long.len(), 1);
-    assert!(long[0].ends_with("ocean_swell"));
-    long[0].clone()
-}
-
 /// Two files of a folder hold a recipe's sheet and its answers to the folder's frames.
 fn shown_and_answered(example: &Path, recipe: &str, sheet: &str, answers: &str) {
     let [recipe, sheet, frames, answers] =
@@ -72,7 +60,7 @@ fn shown_and_answered(example: &Path, recipe: &str, sheet: &str, answers: &str) 
 
 #[test]
 fn sheets_explanations_and_answers_are_the_reference_s() {
-    assert_eq!(examples().len(), 13);
+    assert_eq!(examples().len(), 12);
     for example in examples() {
         shown_and_answered(&example, "recipe", "sheet", "answers");
         let explained = text(explain_output(
@@ -205,10 +193,8 @@ fn every_line_is_explained() {
         let [recipe, sheet, explanation, frames, answers] =
             ["recipe", "sheet", "explanation", "frames", "answers"]
                 .map(|name| read(&example, name));
-        if example != ocean_swell() {
-            recipe.lines().for_each(|line| shows(&example, &[line]));
-            sheet.lines().for_each(|line| shows(&example, &[line]));
-        }
+        recipe.lines().for_each(|line| shows(&example, &[line]));
+        sheet.lines().for_each(|line| shows(&example, &[line]));
         if explanation != "00\n" {
             shows(&example, &[explanation.trim()]);
         }
@@ -230,81 +216,6 @@ fn every_line_is_explained() {
             shows(&example, &[line, other]);
         }
     }
-}
-
-/// The README of the sea shows some of its 300 steps, each with the lines of its recipe and of its sheet; and those of wave 1 and of wave k
-/// differ in constants and in the places of their operands alone. (That its text form is the table of waves, `text_form` says.)
-#[test]
-fn the_steps_of_the_sea() {
-    const SHARED: usize = 6;
-    let folder = ocean_swell();
-    let [readme, recipe, sheet] = ["README.md", "recipe", "sheet"].map(|name| read(&folder, name));
-    let (recipe, sheet): (Vec<&str>, Vec<&str>) =
-        (recipe.lines().collect(), sheet.lines().collect());
-    assert_eq!((recipe.len(), sheet.len()), (300, 300));
-    let mut shown = Vec::new();
-    for row in readme.lines() {
-        let cells: Vec<&str> = row.split('|').map(str::trim).collect();
-        let Some(line) = cells.get(2).and_then(|cell| cell.strip_prefix('`')) else {
-            continue;
-        };
-        if let Ok(step) = cells[1].parse::<usize>() {
-            assert_eq!(line, format!("{}`", recipe[step]), "{row}");
-            assert_eq!(cells[4], format!("`{}`", sheet[step]), "{row}");
-            shown.push(step);
-        }
-    }
-    let expected = (0..22).chain([38]).chain(293..300);
-    assert_eq!(shown, expected.collect::<Vec<usize>>());
-    let opcodes = |steps: &[&str]| {
-        steps
-            .iter()
-            .map(|line| line[..2].to_owned())
-            .collect::<Vec<_>>()
-    };
-    let first = opcodes(&recipe[SHARED..22]);
-    for wave in recipe[22..294].chunks(17) {
-        let (sum, others) = wave.split_last().unwrap();
-        assert_eq!(opcodes(others), first);
-        assert_eq!(&sum[..2], "40");
-    }
-}
-
-/// What that README says of the sheet: without the bounds of half a turn every wave is twice as high on it, and no answer is another.
-#[test]
-fn the_bounds_of_half_a_turn() {
-    let folder = ocean_swell();
-    let [recipe, frames, answers] = ["recipe", "frames", "answers"].map(|name| read(&folder, name));
-    let lines: Vec<&str> = recipe.lines().collect();
-    // Where a step is fmin of fmax of a remainder, fabs and multiply take the remainder.
-    let mut unbounded = recipe.clone();
-    let mut waves = Vec::new();
-    for (step, line) in lines.iter().enumerate() {
-        if line.starts_with("24") {
-            let [bend, arch, wave] = [3, 5, 7].map(|after| lines[step + after]);
-            assert_eq!([bend, arch].map(|line| &line[..2]), ["16", "42"]);
-            let within = format!("{:04x}", step + 2);
-            for line in [bend, arch] {
-                assert_eq!(line[2..6], within);
-                let other = format!("{}{step:04x}{}", &line[..2], &line[6..]);
-                unbounded = unbounded.replace(line, &other);
-            }
-            assert!(wave.starts_with("42"));
-            waves.push(step + 7);
-        }
-    }
-    assert_eq!(waves.len(), 17);
-    let sheets =
-        [&recipe, &unbounded].map(|text_of| text(sheet_output(Way::Exact, text_of.as_bytes())));
-    let high = |sheet: &str, step: usize| {
-        let line = sheet.lines().nth(step).unwrap();
-        f64::from_bits(u64::from_str_radix(&line[24..40], 16).unwrap())
-    };
-    for wave in waves {
-        assert_eq!(high(&sheets[1], wave), 2.0 * high(&sheets[0], wave));
-    }
-    let input = format!("{unbounded}\n{frames}");
-    assert_eq!(text(run_output(Way::Exact, input.as_bytes())), answers);
 }
 
 /// What the README of the two zeros says of its step 2 with the operands exchanged.

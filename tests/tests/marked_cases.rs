@@ -51,7 +51,7 @@ fn the_library_and_the_reference_give_the_marked_answers() {
         assert_eq!(
             (function.short)(&BINARY64, x, y),
             answer,
-            "short way, {case}"
+            "short form, {case}"
         );
     }
 }

@@ -10,8 +10,7 @@ _estrenwind() {
     case $command in
     sheet) options="--hex --json --help" ;;
     run) options="--decimal --trace --shard -o --quiet --help" ;;
-    asm) options="--long -o --help" ;;
-    join | dis) options="-o --help" ;;
+    join | asm | dis) options="-o --help" ;;
     help | --help)
         mapfile -t COMPREPLY < <(compgen -W "$commands" -- "$word")
         return

@@ -1,121 +1,9 @@
 //! How recipes, sheets, frames and answers are written: what they measure, and their lines as values.
 
-use crate::recipe::{TurnedDown, Value, LONG_SHEET_LINE, MOST_SHORT_STEPS, MOST_STEPS, SHEET_LINE};
+use crate::recipe::Value;
 
-/// Bytes of a recipe in the short form per step, its line feed counted.
+/// Bytes of a recipe per step, its line feed counted.
 pub const RECIPE_LINE: usize = 39;
-
-/// Bytes of a recipe in the long form per step, its line feed counted.
-pub const LONG_RECIPE_LINE: usize = 43;
-
-/// Bytes of the longest recipe.
-pub const MOST_TEXT: usize = LONG_RECIPE_LINE * MOST_STEPS;
-
-/// The form of a recipe's text. Step numbers have 2 digits in the short form and 4 in the long one: A and B in the recipe, the steps of its
-/// sheet, and the places of refusals. Both forms are read to the same steps. Later versions may have more.
-///
-/// ```
-/// use estrenwind::Form;
-///
-/// // floor of step 0, in both forms.
-/// let short = b"10000000000000000000000000000000000000\n";
-/// let long = b"100000000000000000000000000000000000000000\n";
-/// assert_eq!(Form::of(short), Some(Form::Short));
-/// assert_eq!(Form::of(long), Some(Form::Long));
-/// assert_eq!((Form::Short.recipe_line(), Form::Long.recipe_line()), (39, 43));
-///
-/// // It is the first line feed that tells the form, and not the length.
-/// assert_eq!(Form::of(&[b'0'; 39]), None);
-/// ```
-///
-/// What is written about a text that tells no form is written as for the short one, which is the default:
-///
-/// ```
-/// # use estrenwind::Form;
-/// assert_eq!(Form::of(b"").unwrap_or_default(), Form::Short);
-/// ```
-#[derive(Clone, Copy, Debug, Default, PartialEq, Eq, Hash)]
-#[non_exhaustive]
-pub enum Form {
-    /// Lines of 38 digits, 128 at most.
-    #[default]
-    Short,
-    /// Lines of 42 digits, 512 at most.
-    Long,
-}
-
-impl Form {
-    /// Both of them.
-    const ALL: [Form; 2] = [Form::Short, Form::Long];
-
-    /// The form that a recipe's first line feed tells: the short one where it is byte 38, counted from 0, the long one where it is byte 42,
-    /// else none. The library refuses a text that tells none with 10.
-    pub fn of(recipe: &[u8]) -> Option<Form> {
-        let front = &recipe[..recipe.len().min(LONG_RECIPE_LINE)];
-        let feed = front.iter().position(|&byte| byte == b'\n')?;
-        Form::ALL
-            .into_iter()
-            .find(|form| form.recipe_line() == feed + 1)
-    }
-
-    /// The form in which so many steps take the least: the short one where it has room for them.
-    pub fn for_steps(count: usize) -> Form {
-        match count > Form::Short.most_steps() {
-            true => Form::Long,
-            false => Form::Short,
-        }
-    }
-
-    /// Digits of a step's number: of A and B, of the steps of a sheet, and of the place of a refusal.
-    pub const fn step_digits(self) -> usize {
-        match self {
-            Form::Short => 2,
-            Form::Long => 4,
-        }
-    }
-
-    /// Bytes of a recipe's line, its line feed counted.
-    pub const fn recipe_line(self) -> usize {
-        match self {
-            Form::Short => RECIPE_LINE,
-            Form::Long => LONG_RECIPE_LINE,
-        }
-    }
-
-    /// Bytes of a line of its sheet, its line feed counted.
-    pub const fn sheet_line(self) -> usize {
-        match self {
-            Form::Short => SHEET_LINE,
-            Form::Long => LONG_SHEET_LINE,
-        }
-    }
-
-    /// Bytes of a refusal line, its line feed counted.
-    pub const fn refusal_line(self) -> usize {
-        REFUSAL_MARK.len() + REFUSAL_DIGITS + self.step_digits() + 1
-    }
-
-    /// Steps that a recipe has at most.
-    pub const fn most_steps(self) -> usize {
-        match self {
-            Form::Short => MOST_SHORT_STEPS,
-            Form::Long => MOST_STEPS,
-        }
-    }
-
-    /// The fields of a recipe's line, in their order.
-    pub const fn fields(self) -> [Field; 5] {
-        let digits = self.step_digits();
-        let p = 2 + 2 * digits;
-        [
-            field("opcode", 0, 2),
-            field("A", 2, digits),
-            field("B", 2 + digits, digits),
-            field("P", p, 16),
-            field("Q", p + 16, 16),
-        ]
-    }
-}
 
 /// A field of a recipe's line: its name, the digits before it and its own.
 #[derive(Clone, Copy, Debug, PartialEq, Eq, Hash)]
@@ -141,11 +29,20 @@ const fn field(name: &'static str, start: usize, digits: usize) -> Field {
     }
 }
 
+/// The fields of a recipe's line, in their order.
+pub const STEP_FIELDS: [Field; 5] = [
+    field("opcode", 0, 2),
+    field("A", 2, 2),
+    field("B", 4, 2),
+    field("P", 6, 16),
+    field("Q", 22, 16),
+];
+
 /// What a refusal line begins with, where an answer has its kind.
 pub const REFUSAL_MARK: &[u8] = b"ff";
 
-/// Digits of a refusal's number.
-const REFUSAL_DIGITS: usize = 2;
+/// Bytes of a refusal line, its line feed counted.
+pub const REFUSAL_LINE: usize = 7;
 
 /// Inputs that a recipe may have.
 pub const MOST_INPUTS: usize = 16;
@@ -325,7 +222,7 @@ impl Operation {
         self.row().gives
     }
 
-    /// Which of the [`fields`](Form::fields) of a line it uses; the others are 0.
+    /// Which of the [`STEP_FIELDS`] it uses; the others are 0.
     pub fn uses(self) -> [bool; 5] {
         let operands = self.operands().len();
         let declares = self.is_input() || self.is_constant();
@@ -381,16 +278,14 @@ fn read_mark(number: u64) -> Option<bool> {
 /// A line of a recipe. What its operation does not use is 0.
 ///
 /// ```
-/// use estrenwind::{Form, Operation, Step};
+/// use estrenwind::{Operation, Step};
 ///
 /// let floor = Step::read(b"10000000000000000000000000000000000000").unwrap();
 /// assert_eq!((floor.operation, floor.a), (Operation::Floor, 0));
-/// assert_eq!(floor.line(Form::Short), "10000000000000000000000000000000000000\n");
+/// assert_eq!(floor.line(), "10000000000000000000000000000000000000\n");
 ///
-/// let scaled = Step { operation: Operation::Multiply, a: 299, b: 1, p: 0, q: 0 };
-/// let line = scaled.line(Form::Long);
-/// assert_eq!(line, "42012b000100000000000000000000000000000000\n");
-/// assert_eq!(Step::read(line.trim_end().as_bytes()), Some(scaled));
+/// let scaled = Step { operation: Operation::Multiply, a: 0, b: 1, p: 0, q: 0 };
+/// assert_eq!(scaled.line(), "42000100000000000000000000000000000000\n");
 /// ```
 #[derive(Clone, Copy, Debug, PartialEq, Eq, Hash)]
 #[allow(missing_docs)]
@@ -403,20 +298,17 @@ pub struct Step {
 }
 
 impl Step {
-    /// The step of a line without its line feed, in the form that the line's length is of. Its fields may be any: whether the step may stand in
-    /// a recipe, only the library says.
+    /// The step of a line without its line feed. Its fields may be any: whether the step may stand in a recipe, only the library says.
     pub fn read(line: &[u8]) -> Option<Step> {
-        let form = Form::ALL
-            .into_iter()
-            .find(|form| form.recipe_line() == line.len() + 1)?;
-        let [opcode, a, b, p, q] = form.fields().map(|field| field.read(line));
-        Some(Step {
+        let [opcode, a, b, p, q] = STEP_FIELDS.map(|field| field.read(line));
+        let step = Step {
             operation: Operation::from_opcode(opcode? as u8)?,
             a: a? as usize,
             b: b? as usize,
             p: p?,
             q: q?,
-        })
+        };
+        (line.len() + 1 == RECIPE_LINE).then_some(step)
     }
 
     /// What stands in the fields of its line.
@@ -425,9 +317,9 @@ impl Step {
         [opcode, self.a as u64, self.b as u64, self.p, self.q]
     }
 
-    /// Its line in a form, with the line feed. A and B are below 256 in the short form, below 65,536 in the long one.
-    pub fn line(&self, form: Form) -> String {
-        let fields = form.fields().into_iter().zip(self.values());
+    /// Its line, with the line feed. A and B are below 256.
+    pub fn line(&self) -> String {
+        let fields = STEP_FIELDS.iter().zip(self.values());
         let digits = fields.map(|(field, value)| format!("{value:00$x}", field.digits));
         digits.chain(["\n".to_owned()]).collect()
     }
@@ -440,14 +332,12 @@ impl Step {
     }
 }
 
-/// The steps of a recipe that the library has read, in either form.
+/// The steps of a recipe that the library has read.
 pub fn steps(recipe: &[u8]) -> Option<Vec<Step>> {
-    let length = Form::of(recipe)?.recipe_line();
-    let read = |line: &[u8]| {
-        let digits = line.strip_suffix(b"\n")?;
-        (line.len() == length).then(|| Step::read(digits))?
-    };
-    recipe.chunks(length).map(read).collect()
+    recipe
+        .chunks(RECIPE_LINE)
+        .map(|line| Step::read(line.strip_suffix(b"\n")?))
+        .collect()
 }
 
 /// A line of a [`sheet`](crate::sheet): a step's kind, its mark, and the ends of its range, 64 bits each.
@@ -458,10 +348,6 @@ pub fn steps(recipe: &[u8]) -> Option<Vec<Step>> {
 /// let floor = Range::read(b"010101c008000000000000401c000000000000").unwrap();
 /// assert_eq!((floor.step, floor.kind, floor.whole), (1, Kind::Double, true));
 /// assert_eq!((f64::from_bits(floor.low), f64::from_bits(floor.high)), (-3.0, 7.0));
-///
-/// // The same as step 299 of a recipe in the long form.
-/// let far = Range::read(b"012b0101c008000000000000401c000000000000").unwrap();
-/// assert_eq!(far, Range { step: 299, ..floor });
 /// ```
 #[derive(Clone, Copy, Debug, PartialEq, Eq, Hash)]
 #[allow(missing_docs)]
@@ -476,25 +362,22 @@ pub struct Range {
 }
 
 impl Range {
-    /// The range of a line without its line feed, in the form that the line's length is of. None where it has another length, a kind that
-    /// there is not, or a mark that is neither 00 nor 01.
+    /// The range of a line without its line feed. None where it has another length, a kind that there is not, or a mark that is neither 00
+    /// nor 01.
     pub fn read(line: &[u8]) -> Option<Range> {
-        let form = Form::ALL
-            .into_iter()
-            .find(|form| form.sheet_line() == line.len() + 1)?;
         let mut fields = Fields(line);
-        Some(Range {
-            step: fields.next(form.step_digits())? as usize,
+        let range = Range {
+            step: fields.next(2)? as usize,
             kind: Kind::from_number(fields.next(2)?)?,
             whole: read_mark(fields.next(2)?)?,
             low: fields.next(16)?,
             high: fields.next(16)?,
-        })
+        };
+        fields.0.is_empty().then_some(range)
     }
 }
 
-/// The answer to a frame, or the refusal, that a line without its line feed writes. Answers are the same in both forms; of a refusal the
-/// line's length tells the form.
+/// The answer to a frame, or the refusal, that a line without its line feed writes.
 ///
 /// ```
 /// use estrenwind::{read_answer, Fault, Value};
@@ -502,37 +385,21 @@ impl Range {
 /// assert_eq!(read_answer(b"02ffffffffffffffff"), Some(Ok(Value::Whole(-1))));
 /// let refused = read_answer(b"ff2000").unwrap().unwrap_err();
 /// assert_eq!((refused.fault, refused.place), (Fault::Input, 0));
-/// let refused = read_answer(b"ff2001ff").unwrap().unwrap_err();
-/// assert_eq!((refused.fault, refused.place), (Fault::Input, 511));
 /// ```
-pub fn read_answer(line: &[u8]) -> Option<Result<Value, TurnedDown>> {
+pub fn read_answer(line: &[u8]) -> Option<Result<Value, crate::TurnedDown>> {
     if let Some(rest) = line.strip_prefix(REFUSAL_MARK) {
-        let form = Form::ALL
-            .into_iter()
-            .find(|form| form.refusal_line() == line.len() + 1)?;
         let mut fields = Fields(rest);
-        let number = fields.next(REFUSAL_DIGITS)?;
-        let place = fields.next(form.step_digits())?;
-        return Some(Err(TurnedDown::of(number, place)));
+        let refused = crate::TurnedDown::of(fields.next(2)?, fields.next(2)?);
+        return fields.0.is_empty().then_some(Err(refused));
     }
     let mut fields = Fields(line);
     let answer = Kind::from_number(fields.next(2)?)?.value(fields.next(16)?);
     fields.0.is_empty().then_some(Ok(answer))
 }
 
-/// The refusal's line, as the programs write it about a recipe in this form, without its line feed.
-///
-/// ```
-/// use estrenwind::{explain, refusal_line, Form};
-///
-/// // No line feed tells a form, so that the line is written as for the short one.
-/// let refused = explain(b"").unwrap_err();
-/// assert_eq!(refusal_line(refused, Form::of(b"").unwrap_or_default()), "ff0a00");
-/// assert_eq!(refusal_line(refused, Form::Long), "ff0a0000");
-/// ```
-pub fn refusal_line(refused: TurnedDown, form: Form) -> String {
-    let number = refused.fault.number();
-    format!("ff{number:02x}{:01$x}", refused.place, form.step_digits())
+/// The refusal's line, as the programs write it, without its line feed.
+pub fn refusal_line(refused: crate::TurnedDown) -> String {
+    format!("ff{:02x}{:02x}", refused.fault.number(), refused.place)
 }
 
 #[cfg(test)]
@@ -549,101 +416,28 @@ mod tests {
 
     #[test]
     fn fields_are_the_line() {
-        for form in Form::ALL {
-            let mut end = 0;
-            for field in form.fields() {
-                assert_eq!(field.start, end);
-                end += field.digits;
-            }
-            assert_eq!(end + 1, form.recipe_line());
-            let sheet: usize = [form.step_digits(), 2, 2, 16, 16, 1].iter().sum();
-            assert_eq!(sheet, form.sheet_line());
+        let mut end = 0;
+        for field in STEP_FIELDS {
+            assert_eq!(field.start, end);
+            end += field.digits;
         }
-    }
-
-    /// The first line feed tells the form, wherever the text ends and whatever else stands in it.
-    #[test]
-    fn forms_are_told_by_the_first_line_feed() {
-        for feed in 0..100 {
-            let told = match feed {
-                38 => Some(Form::Short),
-                42 => Some(Form::Long),
-                _ => None,
-            };
-            for (byte, after) in [(b'0', 0), (b'?', 1), (b'\r', 4), (0, 5), (255, 100)] {
-                let mut text = vec![byte; feed];
-                assert_eq!(Form::of(&text), None, "{feed} bytes without a line feed");
-                text.resize(feed + 1 + after, b'\n');
-                assert_eq!(Form::of(&text), told, "a line feed after {feed} bytes");
-            }
-        }
-        assert_eq!(Form::of(b""), None);
-    }
-
-    #[test]
-    fn the_short_form_is_taken_where_it_has_room() {
-        for (count, form) in [
-            (0, Form::Short),
-            (1, Form::Short),
-            (128, Form::Short),
-            (129, Form::Long),
-            (512, Form::Long),
-            (513, Form::Long),
-        ] {
-            assert_eq!(Form::for_steps(count), form, "{count}");
-        }
+        assert_eq!(end + 1, RECIPE_LINE);
     }
 
     #[test]
     fn refusal_lines_come_back() {
-        for form in Form::ALL {
-            for (number, place) in [(10, 0), (32, 127), (255, 255), (20, 511), (32, 65535)] {
-                if form == Form::Short && place > 255 {
-                    continue;
-                }
-                let refused = TurnedDown::of(number, place);
-                let line = refusal_line(refused, form);
-                assert_eq!(line.len() + 1, form.refusal_line());
-                assert_eq!(read_answer(line.as_bytes()), Some(Err(refused)));
-            }
+        for (number, place) in [(10, 0), (32, 127), (255, 255)] {
+            let refused = crate::TurnedDown::of(number, place);
+            let line = refusal_line(refused);
+            assert_eq!(line.len() + 1, REFUSAL_LINE);
+            assert_eq!(read_answer(line.as_bytes()), Some(Err(refused)));
         }
-        assert_eq!(
-            Form::ALL.map(|form| refusal_line(TurnedDown::of(32, 1), form)),
-            ["ff2001", "ff200001"]
-        );
-    }
-
-    /// Steps in the order of a recipe, from either form, and none from a text that mixes the two.
-    #[test]
-    fn both_forms_are_the_same_steps() {
-        let step = |operation, a, b| Step {
-            operation,
-            a,
-            b,
-            p: 0,
-            q: 0,
-        };
-        let all = [
-            step(Operation::Input, 0, 0),
-            step(Operation::Floor, 0, 0),
-            step(Operation::Add, 1, 0),
-        ];
-        let text = |form: Form| all.map(|step| step.line(form)).concat();
-        for form in Form::ALL {
-            assert_eq!(text(form).len(), 3 * form.recipe_line());
-            assert_eq!(steps(text(form).as_bytes()).as_deref(), Some(&all[..]));
-        }
-        let mixed = format!("{}{}", text(Form::Long), text(Form::Short));
-        assert_eq!(steps(mixed.as_bytes()), None);
-        let last = format!("{}{}", text(Form::Long), all[2].line(Form::Short));
-        assert_eq!(steps(last.as_bytes()), None);
-        assert_eq!(steps(b""), None);
     }
 
     #[test]
     fn a_range_is_its_fields() {
         let line = "7f0201fffffffffffffffd0000000000000007";
-        assert_eq!(line.len() + 1, SHEET_LINE);
+        assert_eq!(line.len() + 1, crate::SHEET_LINE);
         let range = Range {
             step: 127,
             kind: Kind::Whole,
@@ -652,10 +446,6 @@ mod tests {
             high: 7,
         };
         assert_eq!(Range::read(line.as_bytes()), Some(range));
-        let long = "01ff0201fffffffffffffffd0000000000000007";
-        assert_eq!(long.len() + 1, LONG_SHEET_LINE);
-        let last = Range { step: 511, ..range };
-        assert_eq!(Range::read(long.as_bytes()), Some(last));
     }
 
     /// Every mark of two bytes but 00 and 01, and the line of before there were marks.
@@ -679,27 +469,13 @@ mod tests {
     fn lines_of_other_lengths_are_none() {
         let line = b"10000000000000000000000000000000000000";
         assert!(Step::read(line).is_some());
+        assert!(Step::read(&line[1..]).is_none());
+        assert!(Step::read(b"100000000000000000000000000000000000000").is_none());
         assert!(Step::read(b"1000000000000000000000000000000000000G").is_none());
-        assert!(Step::read(b"10000000000000000000000000000000000000000G").is_none());
-        let range = "000100c004000000000000401d000000000000";
-        let long_range = format!("00{range}");
+        assert!(Range::read(b"000100c004000000000000401d000000000000").is_some());
+        assert!(Range::read(b"000100c004000000000000401d0000000000000").is_none());
+        assert!(Range::read(b"000100c004000000000000401d00000000000").is_none());
         assert!(Range::read(b"000300c004000000000000401d000000000000").is_none());
-        assert!(Range::read(b"00000300c004000000000000401d000000000000").is_none());
-        for length in 0..=60 {
-            let digits = [b'0'; 60];
-            let with_opcode = [&b"10"[..], &digits].concat();
-            let step = Step::read(&with_opcode[..length]);
-            assert_eq!(step.is_some(), [38, 42].contains(&length), "{length}");
-            let with_kind = |front: &str| format!("{front}{:060}", 0).into_bytes();
-            let read = |text: &[u8]| Range::read(&text[..length]).is_some();
-            assert_eq!(read(&with_kind("000100")), length == 38, "{length}");
-            assert_eq!(read(&with_kind("00000100")), length == 40, "{length}");
-            let refusal = with_kind("ff20");
-            let refused = read_answer(&refusal[..length]);
-            assert_eq!(refused.is_some(), [6, 8].contains(&length), "{length}");
-        }
-        assert!(Range::read(range.as_bytes()).is_some());
-        assert!(Range::read(long_range.as_bytes()).is_some());
         assert!(read_answer(b"02ffffffffffffffff0").is_none());
         assert!(read_answer(b"ff200").is_none());
     }

@@ -5,19 +5,13 @@ use std::error::Error;
 use std::fmt;
 
 /// Steps of the longest recipe: words of memory that are enough for every [`run`].
-pub const MOST_STEPS: usize = 512;
+pub const MOST_STEPS: usize = 128;
 
-/// Steps of the longest recipe in the short form.
-pub const MOST_SHORT_STEPS: usize = 128;
-
-/// Bytes of a [`sheet`] per step, its line feed counted, for a recipe in the short form.
+/// Bytes of a [`sheet`] per step, its line feed counted.
 pub const SHEET_LINE: usize = 39;
 
-/// Bytes of a [`sheet`] per step, its line feed counted, for a recipe in the long form.
-pub const LONG_SHEET_LINE: usize = 41;
-
 /// Bytes of memory that are enough for every [`sheet`].
-pub const MOST_SHEET: usize = LONG_SHEET_LINE * MOST_STEPS;
+pub const MOST_SHEET: usize = SHEET_LINE * MOST_STEPS;
 
 /// A step's value. Later versions may have more kinds of values.
 #[derive(Clone, Copy, Debug, PartialEq)]
@@ -60,8 +54,7 @@ impl Value {
 #[derive(Clone, Copy, Debug, PartialEq, Eq, Hash)]
 #[non_exhaustive]
 pub enum Fault {
-    /// 10: the first line feed tells no form of a recipe ([`Form::of`](crate::Form::of)), or the text is not whole lines of that form, or too
-    /// many.
+    /// 10: the text is empty, too long, or not whole lines of 39 bytes.
     Length,
     /// 11: a byte is not a lower-case hexadecimal digit, or a line does not end with a line feed.
     Digit,
@@ -154,9 +147,7 @@ impl From<u64> for Fault {
 impl fmt::Display for Fault {
     fn fmt(&self, f: &mut fmt::Formatter) -> fmt::Result {
         f.write_str(match self {
-            Fault::Length => {
-                "the recipe is empty, too long, or not whole lines of 39 or of 43 bytes"
-            }
+            Fault::Length => "the recipe is empty, too long, or not whole lines of 39 bytes",
             Fault::Digit => "not a lower-case hexadecimal digit, or no line feed at the end",
             Fault::Opcode => "no such opcode",
             Fault::Unused => "a field that the step does not use is not zero",
@@ -208,7 +199,7 @@ impl fmt::Display for TurnedDown {
 impl Error for TurnedDown {}
 
 /// Works out every step of a recipe on one frame, writes each step's 64 bits to `words` and gives the last step's value. Words past the last
-/// step's stay as they were. The recipe is in either [form](crate::Form).
+/// step's stay as they were.
 ///
 /// ```
 /// use estrenwind::{run, Fault, Value, MOST_STEPS};
@@ -228,12 +219,6 @@ impl Error for TurnedDown {}
 /// let recipe = b"010000c004000000000000401d000000000000\n\
 ///                03000040a77000000000000000000000000000\n\
 ///                42000100000000000000000000000000000000\n";
-/// assert_eq!(run(recipe, b"bfe0000000000000", &mut words), Ok(Value::Double(-1500.0)));
-///
-/// // The same in the long form, in which A and B have 4 digits.
-/// let recipe = b"0100000000c004000000000000401d000000000000\n\
-///                030000000040a77000000000000000000000000000\n\
-///                420000000100000000000000000000000000000000\n";
 /// assert_eq!(run(recipe, b"bfe0000000000000", &mut words), Ok(Value::Double(-1500.0)));
 /// ```
 pub fn run(recipe: &[u8], frame: &[u8], words: &mut [u64]) -> Result<Value, TurnedDown> {
@@ -255,15 +240,12 @@ pub fn run(recipe: &[u8], frame: &[u8], words: &mut [u64]) -> Result<Value, Turn
 }
 
 /// Works out the range of every step of a recipe, over all frames whose inputs lie in their declared ranges, and whether its value is whole;
-/// writes one line per step to `lines` and gives the number of steps. Bytes past the last line stay as they were. A line has [`SHEET_LINE`]
-/// bytes where the recipe is in the short form and [`LONG_SHEET_LINE`] where it is in the long one:
-/// [`Form::of`](crate::Form::of)`(recipe)` tells which, and [`Form::sheet_line`](crate::Form::sheet_line) how many.
-///
+/// writes one line of [`SHEET_LINE`] bytes per step to `lines` and gives the number of steps. Bytes past the last line stay as they were.
 /// A recipe whose sheet passes is refused by no step of a [`run`], and the value of every step lies in its range; that of a step which is
-/// marked whole is finite and has no fraction. [`Range::read`](crate::Range::read) reads a line of either form.
+/// marked whole is finite and has no fraction. [`Range::read`](crate::Range::read) reads a line.
 ///
 /// ```
-/// use estrenwind::{sheet, Fault, Form, Range, MOST_SHEET, SHEET_LINE};
+/// use estrenwind::{sheet, Fault, Range, MOST_SHEET, SHEET_LINE};
 ///
 /// let recipe = b"010000c004000000000000401d000000000000\n\
 ///                10000000000000000000000000000000000000\n\
@@ -285,19 +267,6 @@ pub fn run(recipe: &[u8], frame: &[u8], words: &mut [u64]) -> Result<Value, Turn
 /// let refused = sheet(b"010000c004000000000000401d000000000000\n\
 ///                       22000000000000000000000000000000000000\n", &mut lines).unwrap_err();
 /// assert_eq!((refused.fault, refused.place), (Fault::Remainder, 1));
-///
-/// // The recipe above in the long form: the steps of its sheet have 4 digits.
-/// let recipe = b"0100000000c004000000000000401d000000000000\n\
-///                100000000000000000000000000000000000000000\n\
-///                180001000000000000000000000000000000000000\n";
-/// let line = Form::of(recipe).unwrap().sheet_line();
-/// let steps = sheet(recipe, &mut lines)?;
-/// assert_eq!(
-///     &lines[..line * steps],
-///     b"00000100c004000000000000401d000000000000\n\
-///       00010101c008000000000000401c000000000000\n\
-///       00020201fffffffffffffffd0000000000000007\n"
-/// );
 /// # Ok::<(), estrenwind::TurnedDown>(())
 /// ```
 pub fn sheet(recipe: &[u8], lines: &mut [u8]) -> Result<usize, TurnedDown> {
@@ -329,7 +298,6 @@ pub struct Lines {
 
 /// Answers frame lines as the program `run` does, the recipe read once for all of them: each line that has its line feed by one line, 16
 /// digits after the kind or a refusal line, while there is room for [`ANSWER_LINE`] bytes. Bytes of `answers` past those written stay as they were.
-/// The place in a refusal line has 2 digits where the recipe is in the short form, and 4 where it is in the long one.
 ///
 /// What was not read is there for the next call, with the lines that follow it: the answers one after another are those of `run`.
 ///
@@ -343,12 +311,6 @@ pub struct Lines {
 /// let lines = b"bfe0000000000000\n401e000000000000\n3ff00";
 /// assert_eq!(run_lines(recipe, lines, &mut answers), Ok(Lines { read: 34, written: 26 }));
 /// assert_eq!(&answers[..26], b"02ffffffffffffffff\nff2000\n");
-///
-/// let recipe = b"0100000000c004000000000000401d000000000000\n\
-///                100000000000000000000000000000000000000000\n\
-///                180001000000000000000000000000000000000000\n";
-/// assert_eq!(run_lines(recipe, lines, &mut answers), Ok(Lines { read: 34, written: 28 }));
-/// assert_eq!(&answers[..28], b"02ffffffffffffffff\nff200000\n");
 /// ```
 pub fn run_lines(recipe: &[u8], lines: &[u8], answers: &mut [u8]) -> Result<Lines, TurnedDown> {
     // SAFETY: the pointers and lengths are those of slices, and only `answers` is written.

@@ -1,10 +1,9 @@
 //! Sheets, explanations and runs through the crate: the examples of the repository, and the lent memory.
 
 use estrenwind::{
-    explain, read_answer, refusal_line, remainder, run, run_lines, sheet, steps, Cause,
-    Explanation, Fault, Form, Kind, Lines, Operation, Range, Reason, Step, TurnedDown, Value,
-    ANSWER_LINE, FRAME_INPUT, MOST_FRAME, MOST_INPUTS, MOST_SHEET, MOST_STEPS, RECIPE_LINE,
-    SHEET_LINE,
+    explain, read_answer, remainder, run, run_lines, sheet, steps, Cause, Explanation, Fault, Kind,
+    Lines, Operation, Range, Reason, Step, TurnedDown, Value, ANSWER_LINE, FRAME_INPUT, MOST_FRAME,
+    MOST_INPUTS, MOST_SHEET, MOST_STEPS, RECIPE_LINE, SHEET_LINE,
 };
 use std::fs;
 use std::path::Path;
@@ -17,6 +16,10 @@ fn turned_down(fault: Fault, place: usize) -> TurnedDown {
     TurnedDown { fault, place }
 }
 
+fn refusal_line(refused: TurnedDown) -> String {
+    format!("ff{:02x}{:02x}", refused.fault.number(), refused.place)
+}
+
 fn read(example: &Path, name: &str) -> String {
     fs::read_to_string(example.join(name)).unwrap()
 }
@@ -24,11 +27,10 @@ fn read(example: &Path, name: &str) -> String {
 /// Two files of an example hold a recipe's sheet, and its answers to the example's frames.
 fn shown_and_answered(example: &Path, [recipe, sheet_file, answers]: [&str; 3]) {
     let recipe = read(example, recipe);
-    let form = Form::of(recipe.as_bytes()).unwrap();
     let mut lines = [0; MOST_SHEET];
     let shown = match sheet(recipe.as_bytes(), &mut lines) {
-        Ok(steps) => String::from_utf8(lines[..form.sheet_line() * steps].to_vec()).unwrap(),
-        Err(refused) => format!("{}\n", refusal_line(refused, form)),
+        Ok(steps) => String::from_utf8(lines[..SHEET_LINE * steps].to_vec()).unwrap(),
+        Err(refused) => format!("{}\n", refusal_line(refused)),
     };
     assert_eq!(shown, read(example, sheet_file));
     let frames = read(example, "frames");
@@ -37,7 +39,7 @@ fn shown_and_answered(example: &Path, [recipe, sheet_file, answers]: [&str; 3]) 
             Ok(Value::Double(x)) => format!("01{:016x}", x.to_bits()),
             Ok(Value::Whole(n)) => format!("02{n:016x}"),
             Ok(other) => panic!("{other:?}"),
-            Err(refused) => refusal_line(refused, form),
+            Err(refused) => refusal_line(refused),
         };
         assert_eq!(answer, expected);
     }
@@ -46,7 +48,7 @@ fn shown_and_answered(example: &Path, [recipe, sheet_file, answers]: [&str; 3]) 
 #[test]
 fn the_examples() {
     let folder = Path::new(env!("CARGO_MANIFEST_DIR")).join("../../examples");
-    let (mut found, mut others, mut long) = (0, 0, 0);
+    let (mut found, mut others) = (0, 0);
     for entry in fs::read_dir(folder).unwrap() {
         let example = entry.unwrap().path();
         if !example.join("recipe").exists() {
@@ -64,17 +66,12 @@ fn the_examples() {
             }
         }
         let recipe = read(&example, "recipe");
-        let form = Form::of(recipe.as_bytes()).unwrap();
-        long += usize::from(form == Form::Long);
         let why = match explain(recipe.as_bytes()) {
             Ok(Explanation::Refused {
                 cause,
                 step,
                 operand,
-            }) => {
-                let digits = form.step_digits();
-                format!("{step:0digits$x}{operand:0digits$x}{:02x}\n", cause.code())
-            }
+            }) => format!("{step:02x}{operand:02x}{:02x}\n", cause.code()),
             other => {
                 assert_eq!(other, Ok(Explanation::Passes));
                 "00\n".to_owned()
@@ -82,7 +79,7 @@ fn the_examples() {
         };
         assert_eq!(why, read(&example, "explanation"));
     }
-    assert_eq!((found, others, long), (13, 6, 1));
+    assert_eq!((found, others), (12, 6));
 }
 
 /// A double, a whole number, and a step of this opcode on the two in these places.
@@ -173,7 +170,7 @@ fn operations_are_the_library_s() {
                     q: 0,
                 },
             ]
-            .map(|step| step.line(Form::Short))
+            .map(|step| step.line())
             .concat();
             let read = steps(text.as_bytes()).unwrap();
             assert_eq!(read[2].operation, operation);
@@ -221,7 +218,7 @@ fn declared(operation: Operation, p: f64, q: f64) -> Step {
 
 /// The lines of two inputs, each from a low to a high end, and an operation on the two.
 fn step_on(operation: Operation, ends: [[f64; 2]; 2]) -> String {
-    let inputs = ends.map(|[low, high]| declared(Operation::Input, low, high).line(Form::Short));
+    let inputs = ends.map(|[low, high]| declared(Operation::Input, low, high).line());
     let step = Step {
         operation,
         a: 0,
@@ -229,7 +226,7 @@ fn step_on(operation: Operation, ends: [[f64; 2]; 2]) -> String {
         p: 0,
         q: 0,
     };
-    inputs.concat() + &step.line(Form::Short)
+    inputs.concat() + &step.line()
 }
 
 fn remainder_of(ends: [[f64; 2]; 2]) -> String {
@@ -525,7 +522,7 @@ fn marks_of_inputs_and_constants() {
         (constant(5e-324), false),
         (constant(f64::NEG_INFINITY), false),
     ] {
-        let range = ranges(declared(operation, p, q).line(Form::Short).as_bytes())[0];
+        let range = ranges(declared(operation, p, q).line().as_bytes())[0];
         assert_eq!(range.whole, whole, "{operation:?} {p:?} {q:?}");
     }
 }
@@ -533,7 +530,7 @@ fn marks_of_inputs_and_constants() {
 /// The most inputs and the size of their fields, asked of the library.
 #[test]
 fn sizes_are_the_library_s() {
-    let input = declared(Operation::Input, 0.0, 0.0).line(Form::Short);
+    let input = declared(Operation::Input, 0.0, 0.0).line();
     assert_eq!(input.len(), RECIPE_LINE);
     let most = input.repeat(MOST_INPUTS);
     let frame = "0".repeat(MOST_FRAME);
@@ -598,6 +595,7 @@ fn lent_memory() {
         assert_eq!(sheet(RECIPE, &mut lines), Err(turned_down(Fault::Room, 0)));
         assert_eq!(lines, vec![7; room]);
     }
+    assert_eq!((SHEET_LINE, MOST_SHEET), (39, 4992));
 }
 
 #[test]
@@ -660,7 +658,7 @@ fn a_fault_without_a_name() {
     let refused = turned_down(Fault::from(99), 7);
     assert_eq!(refused.fault, Fault::Other(99));
     assert_eq!(refused.to_string(), "place 7: refusal 99");
-    assert_eq!(refusal_line(refused, Form::Short), "ff6307");
+    assert_eq!(refusal_line(refused), "ff6307");
 }
 
 /// A `match` on an enum of another crate has to leave room for cases of a later version.
@@ -678,5 +676,5 @@ fn every_public_enum_may_grow() {
             }
         }
     }
-    assert_eq!(found, 9);
+    assert_eq!(found, 8);
 }

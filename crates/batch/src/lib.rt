@@ -1,13 +1,12 @@
 // Many frames of one recipe in one call: frame lines answered as the run program answers them, the recipe's text read once (document 01, "Sheet
-// and run on paper"; document 02, W-206).
-ghost use Rattle.std.specs.Prelude.{◌≡◌, ◌*◌, ◌≤◌, length};
-ghost use Rattle.recipe.specs.Text.{steps_for};
+// and run on paper").
+ghost use Rattle.std.specs.Prelude.{◌≡◌, length};
 ghost use Rattle.programs.specs.Batch.{refused, answer_of, bytes_of, batch_of};
 
 use output::LINE;
 use programs::LinesAnswer;
-use reader::{is_long, number_digits, read};
-use recipe::{MOST_WORDS, SHORT_TEXT, SHORT_WORDS};
+use reader::read;
+use recipe::MOST_WORDS;
 use stream::answer_lines;
 
 // The answer of a refusal.
@@ -22,34 +21,9 @@ fn refusal(number: u64, place: u64) -> LinesAnswer
     }
 }
 
-// Answers the lines of a text that was read into the words lent here, which are enough for its steps.
-fn answer_text(text: &[u8], steps: &mut [u64], lines: &[u8], out: &mut [u8]) -> LinesAnswer
-    requires { 3 * steps_for (length text.now) ≤ length steps.old }
-    ensures { (result ≡ answer_of (batch_of text.now lines.now (length out.old)))
-        × (out.new ≡ bytes_of (batch_of text.now lines.now (length out.old)) out.old) }
-{
-    let recipe = read(text, steps);
-    if recipe.refusal != 0 {
-        return refusal(recipe.refusal, recipe.place.0 as u64);
-    }
-    if out.len() < LINE {
-        return refusal(40, 0);
-    }
-    let size = 3 * recipe.count;
-    let digits = number_digits(is_long(text));
-    let done = answer_lines(&steps[..size], digits, lines, 0, out);
-    LinesAnswer {
-        refusal: 0,
-        place: 0,
-        read: done.at as u64,
-        written: done.put as u64,
-    }
-}
-
-// Answers frame lines, each by a line of its own: kind 2 digits and word 16, or ff, a refusal's number, 2 digits, and its place, 2 digits or, of a
-// text in the long form, 4. A refused frame does not stop the next. A line counts where its line feed is there, and it goes on while there is
-// room for the longest answer. It answers how many bytes of the lines it has read and how many bytes it has written; the rest of the bytes
-// stays as lent.
+// Answers frame lines, each by a line of its own: kind 2 digits and word 16, or ff, a refusal's number and its place, 2 digits each. A refused
+// frame does not stop the next. A line counts where its line feed is there, and it goes on while there is room for the longest answer. It
+// answers how many bytes of the lines it has read and how many bytes it has written; the rest of the bytes stays as lent.
 //
 // So a caller goes on from where it stopped, with what was not read and the lines that follow: the answers one after another are those of the
 // run program (`programs/proofs/Batches.antt`, joined). A last line without its line feed is the caller's to end.
@@ -60,10 +34,20 @@ pub fn run_lines(text: &[u8], lines: &[u8], out: &mut [u8]) -> LinesAnswer
     ensures { (result ≡ answer_of (batch_of text.now lines.now (length out.old)))
         × (out.new ≡ bytes_of (batch_of text.now lines.now (length out.old)) out.old) }
 {
-    if text.len() <= SHORT_TEXT {
-        let mut steps = [0u64; SHORT_WORDS];
-        return answer_text(text, &mut steps, lines, out);
-    }
     let mut steps = [0u64; MOST_WORDS];
-    answer_text(text, &mut steps, lines, out)
+    let recipe = read(text, &mut steps);
+    if recipe.refusal != 0 {
+        return refusal(recipe.refusal, recipe.place.0 as u64);
+    }
+    if out.len() < LINE {
+        return refusal(40, 0);
+    }
+    let size = 3 * recipe.count;
+    let done = answer_lines(&steps[..size], lines, 0, out);
+    LinesAnswer {
+        refusal: 0,
+        place: 0,
+        read: done.at as u64,
+        written: done.put as u64,
+    }
 }

@@ -10,7 +10,7 @@ ghost use Rattle.remainder.specs.Remainder.{fmod, fmod_refusal};
 ghost use Rattle.nearest_remainder.specs.Nearest.{remainder, remquo_quotient};
 ghost use Rattle.ordering.specs.Ordering.{nextafter, nextafter_refusal, fmin, fmax};
 ghost use Rattle.recipe.specs.declared.Step.{Step};
-ghost use Rattle.recipe.specs.Text.{steps, read_any, number_digits};
+ghost use Rattle.recipe.specs.Text.{short, steps, read_text};
 ghost use Rattle.semantics.specs.Run.{run_of, answer_of, words_of};
 ghost use Rattle.semantics.specs.Shown.{sheet_of, bytes_of};
 ghost use Rattle.semantics.specs.Shown as sheet;
@@ -347,7 +347,7 @@ pub extern "C" fn ew_f32_to_f16(x: u32) -> Word16
 #[unsafe(no_mangle)]
 pub extern "C" fn ew_sheet(text: &[u8], bytes: &mut [u8]) -> SheetAnswer
     ensures { (result ≡ sheet.answer_of (sheet_of text.now (length bytes.old)))
-        × (bytes.new ≡ bytes_of (number_digits text.now) (sheet_of text.now (length bytes.old)) bytes.old) }
+        × (bytes.new ≡ bytes_of (sheet_of text.now (length bytes.old)) bytes.old) }
 {
     sheets::sheet(text, bytes)
 }
@@ -364,7 +364,7 @@ pub extern "C" fn ew_explain(text: &[u8]) -> ExplainAnswer
 pub extern "C" fn ew_run(text: &[u8], frame: &[u8], words: &mut [u64]) -> RunAnswer
     ensures value { (result ≡ answer_of (run_of text.now frame.now (length words.old)))
         × (words.new ≡ words_of (run_of text.now frame.now (length words.old)) words.old) }
-    ensures keeps { (l : List Step) → read_any text.now ≡ steps l → Keeps l frame.now words.old result words.new }
+    ensures keeps { (l : List Step) → read_text short text.now ≡ steps l → Keeps l frame.now words.old result words.new }
 {
     running::run(text, frame, words)
 }

@@ -2,7 +2,7 @@
 // operand's step and the reason's code; or the refusal line of a recipe whose text is refused. Where standard input cannot be read, or
 // standard output not be written, it says so on standard error.
 //
-// No more than 22,017 bytes are read: a text that long is refused by its length, however it goes on.
+// No more than 4,993 bytes are read: a text that long is refused by its length, however it goes on.
 use output::LINE;
 use programs::LOOKED_AT;
 

@@ -3,15 +3,16 @@
 use mathlib.Core.Path.{◌≡◌, refl, ap, ◌∙◌}
 use mathlib.Core.Bool.{true, false}
 use mathlib.Core.List.{List, [], ◌∷◌, ◌++◌}
-use Prim.Native.Nat.{ℕ, suc, ◌*◌, ◌/◌, ◌≤◌}
+use Prim.Native.Nat.{ℕ, suc, ◌*◌, ◌/◌}
+use native.Mathlib.Omega.{arith}
 use lib.ListN.{length, take}
 use Rattle.recipe.specs.declared.Reading.{Reading}
 use Rattle.recipe.specs.declared.Step.{Step}
-use Rattle.recipe.specs.Text.{steps_for, read_any}
+use Rattle.recipe.specs.Text.{short, most_steps, read_text}
 use Rattle.recipe.specs.Packed.{bad_words, steps_in}
 use Rattle.recipe.specs.Answer.{Says, Holds}
 use Rattle.recipe.proofs.Packed.{holds_words}
-use Rattle.recipe.proofs.Laws.{answer_steps, answer_room, answer_holds, answer_refused}
+use Rattle.recipe.proofs.Laws.{answer_steps, answer_count, answer_holds, answer_refused}
 use Rattle.semantics.specs.declared.ExplainAnswer.{ExplainAnswer}
 use Rattle.semantics.specs.Range.{Range, ranged}
 use Rattle.semantics.specs.Range as range
@@ -55,17 +56,18 @@ holds_explained l w h = rw (holds_words l w h, h.kept) (carried_same l (declared
 
 -- ---- a text
 
-module _ (t : List ℕ) (r : Reading) (w : List ℕ) (g : Says (read_any t) r w) where
+module _ (t : List ℕ) (r : Reading) (w : List ℕ) (g : Says (read_text short t) r w) where
   -- the reader's refusal
   pub text_refused : (r.refusal ≡ 0 → ⊥) → explain_of t ≡ refused r.refusal r.place.0
   unfolding explain_of on_text
   text_refused h = rw (answer_refused t r w g h)
 
   -- else the explanation is that of the words read, and of these alone
-  pub text_explained : r.refusal ≡ 0 → 3 * steps_for (length t) ≤ length w → explain_words (take (3 * r.count) w) ≡ explain_of t
+  pub text_explained : r.refusal ≡ 0 → length w ≡ 3 * most_steps → explain_words (take (3 * r.count) w) ≡ explain_of t
   unfolding explain_of on_text
   text_explained z e =
-      holds_explained (steps_in w r.count) (take (3 * r.count) w) (answer_holds t r w g z (answer_room t r w g z e)) ∙ rw (answer_steps t r w g z)
+      let n = answer_count t r w g z in
+      holds_explained (steps_in w r.count) (take (3 * r.count) w) (answer_holds t r w g z (omega (arith, n.1))) ∙ rw (answer_steps t r w g z)
 
 -- ---- the contract: its first part, and the second
 

@@ -1,23 +1,22 @@
 // Why a recipe's sheet is refused (document 02, W-205): the step, the operand and the reason's code.
 ghost use Rattle.std.specs.Prelude.{◌≡◌, List, [], ◌*◌, ◌≤◌, length};
 ghost use Rattle.recipe.specs.declared.Step.{Step};
-ghost use Rattle.recipe.specs.Text.{most_steps, steps_for};
+ghost use Rattle.recipe.specs.Text.{most_steps};
 ghost use Rattle.recipe.specs.Packed.{steps_in};
 ghost use Rattle.recipe.specs.Answer.{Holds};
 ghost use Rattle.semantics.specs.Explain.{passed, explained, refused, explain_steps, explain_of, answer_of};
 ghost use Rattle.explaining.specs.Packed.{carried_from, explain_words};
 
-use causes::Reason;
-use few::explain_few;
-use many::explain_many;
+use causes::{Reason, reason_of};
+use ranges::bounds::step_range;
+use ranges::{Bound, Range, WholeRange};
 use reader::read;
-use recipe::{MOST_WORDS, SHORT_STEPS, SHORT_TEXT, SHORT_WORDS, StepNumber};
+use recipe::{MOST_STEPS, MOST_WORDS, StepNumber};
 use semantics::ExplainAnswer;
-use steps::bad_words;
+use steps::{bad_words, step_at};
+use values::place_of;
 
 mod causes;
-mod few;
-mod many;
 
 // The answer of a text that is refused.
 fn refusal(number: u64, place: StepNumber) -> ExplainAnswer
@@ -58,22 +57,37 @@ fn no_reason() -> ExplainAnswer
     }
 }
 
-// The explanation of the first n steps, in an array for up to 128 or for up to 512.
+// The explanation of the first n steps: their ranges up to the first that is turned down, as the sheet has them.
 fn explain_steps(steps: &[u64], n: usize) -> ExplainAnswer
     requires { (n ≤ most_steps) × (3 * n ≤ length steps.now) }
     ensures { result ≡ answer_of (carried_from (steps_in steps.now n) 0 []) }
 {
-    if n <= SHORT_STEPS {
-        return explain_few(steps, n);
+    let mut ranges = [Range::Wholes(WholeRange { low: 0, high: 0 }); MOST_STEPS];
+    let mut i: usize = 0;
+    while i < n {
+        let t = step_at(steps, i);
+        let f = place_of(t.a, i);
+        let g = place_of(t.b, i);
+        let a = ranges[f];
+        let b = ranges[g];
+        let r = match step_range(t, a, b) {
+            Bound::Ranged(r) => r,
+            Bound::Refused(_) => {
+                let why = reason_of(t, a, b);
+                return turned_down(StepNumber(i as u16), why);
+            }
+        };
+        ranges[i] = r;
+        i += 1;
     }
-    explain_many(steps, n)
+    no_reason()
 }
 
 // Why the sheet of a recipe that was read is refused with 20 to 22: the step, the step of the operand that the reason is about, and the reason's
 // code, which names a fact that is true of the ranges of earlier steps; no fact before it in the opcode's list is. All are 0 where the sheet
 // passes, given room. `steps` has the recipe's steps, three words each, as the reader put them.
 //
-// Refuses, of words that the reader gave for no text: 10 where they are not three each for 1 to 512 steps, at place 0.
+// Refuses, of words that the reader gave for no text: 10 where they are not three each for 1 to 128 steps, at place 0.
 //
 // The first part of the contract speaks of any words; the second of those of formed steps, of which no range has an end that is a NaN, so
 // that floats carry the ends as they are.
@@ -88,27 +102,15 @@ pub fn explain_recipe(steps: &[u64]) -> ExplainAnswer
     explain_steps(steps, size / 3)
 }
 
-// The same of a recipe's text, whose steps are put into the words lent here.
-fn explain_text(text: &[u8], steps: &mut [u64]) -> ExplainAnswer
-    requires { 3 * steps_for (length text.now) ≤ length steps.old }
+// The same of a recipe's text. Refuses 10 to 17 as the reader does.
+pub fn explain(text: &[u8]) -> ExplainAnswer
     ensures { result ≡ answer_of (explain_of text.now) }
 {
-    let recipe = read(text, steps);
+    let mut steps = [0u64; MOST_WORDS];
+    let recipe = read(text, &mut steps);
     if recipe.refusal != 0 {
         return refusal(recipe.refusal, recipe.place);
     }
     let size = 3 * recipe.count;
     explain_recipe(&steps[..size])
-}
-
-// The same, in either form of text. Refuses 10 to 17 as the reader does. A text of up to 4,992 bytes has at most 128 steps, and words for these.
-pub fn explain(text: &[u8]) -> ExplainAnswer
-    ensures { result ≡ answer_of (explain_of text.now) }
-{
-    if text.len() <= SHORT_TEXT {
-        let mut steps = [0u64; SHORT_WORDS];
-        return explain_text(text, &mut steps);
-    }
-    let mut steps = [0u64; MOST_WORDS];
-    explain_text(text, &mut steps)
 }

@@ -166,12 +166,12 @@ module _ (f : Format) where
         unsigned_signed f 0 weight false,
       )
 
-  pub fmin-zeros : (fmin f (minus_zero f) (plus_zero f) ≡ minus_zero f) × (fmin f (plus_zero f) (minus_zero f) ≡ minus_zero f)
-  fmin-zeros =
+  pub fmin_zeros : (fmin f (minus_zero f) (plus_zero f) ≡ minus_zero f) × (fmin f (plus_zero f) (minus_zero f) ≡ minus_zero f)
+  fmin_zeros =
       gives f (fmin f) min (fmin_keyed f) min_comm (minus_zero f) (plus_zero f) (minus_zero f) (zero_number true) (zero_number false) (zero_number true)
       (omega (arith, minus_before_plus))
 
-  pub fmax-zeros : (fmax f (minus_zero f) (plus_zero f) ≡ plus_zero f) × (fmax f (plus_zero f) (minus_zero f) ≡ plus_zero f)
-  fmax-zeros =
+  pub fmax_zeros : (fmax f (minus_zero f) (plus_zero f) ≡ plus_zero f) × (fmax f (plus_zero f) (minus_zero f) ≡ plus_zero f)
+  fmax_zeros =
       gives f (fmax f) max (fmax_keyed f) max_comm (minus_zero f) (plus_zero f) (plus_zero f) (zero_number true) (zero_number false) (zero_number false)
       (omega (arith, minus_before_plus))

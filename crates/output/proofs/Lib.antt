@@ -1,4 +1,3 @@
 -- Laws in the shape of the code.
 pub mod Written
 pub mod Sheets
-pub mod Frames

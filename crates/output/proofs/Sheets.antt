@@ -5,7 +5,7 @@ use mathlib.Core.List.{List, []}
 use Prim.Native.Nat.{ℕ, ◌*◌, ◌≤◌}
 use native.Mathlib.Omega.{arith}
 use lib.ListN.{take}
-use Rattle.recipe.specs.Text.{most_steps, number_digits}
+use Rattle.recipe.specs.Text.{most_steps}
 use Rattle.semantics.specs.declared.SheetAnswer.{SheetAnswer}
 use Rattle.semantics.specs.Shown.{Shown, sheet_line, longest_sheet, sheet_of, answer_of, bytes_of}
 use Rattle.semantics.proofs.SheetLines.{sheet_passed}
@@ -18,19 +18,19 @@ module _ (t : List ℕ) (room : ℕ) (r : longest_sheet ≤ room) (a : SheetAnsw
   answered : a ≡ answer_of (sheet_of t longest_sheet)
   answered = e ∙ ap (λ (x : Shown). answer_of x) (enough_room t room r)
 
-  pub sheet_refused : (a.refusal ≡ 0 → ⊥) → refusal_line (number_digits t) a.refusal a.place ≡ sheet_output t
+  pub sheet_refused : (a.refusal ≡ 0 → ⊥) → refusal_line a.refusal a.place ≡ sheet_output t
   unfolding sheet_output
   sheet_refused h =
-      sym (on_refused (number_digits t) a (bytes_of (number_digits t) (sheet_of t longest_sheet) []) h) ∙ ap (λ (x : SheetAnswer). on_sheet (number_digits t) x (bytes_of (number_digits t) (sheet_of t longest_sheet) [])) answered
+      sym (on_refused a (bytes_of (sheet_of t longest_sheet) []) h) ∙ ap (λ (x : SheetAnswer). on_sheet x (bytes_of (sheet_of t longest_sheet) [])) answered
 
   -- the bytes after what stands in the output are as they were lent
-  pub sheet_unwritten : (lent out : List ℕ) → out ≡ bytes_of (number_digits t) (sheet_of t room) lent → (a.refusal ≡ 0 → ⊥) → out ≡ lent
-  sheet_unwritten lent out w h = w ∙ all_stays (number_digits t) (sheet_of t room) lent (λ q. h (ap (λ (x : SheetAnswer). x.refusal) e ∙ q))
+  pub sheet_unwritten : (lent out : List ℕ) → out ≡ bytes_of (sheet_of t room) lent → (a.refusal ≡ 0 → ⊥) → out ≡ lent
+  sheet_unwritten lent out w h = w ∙ all_stays (sheet_of t room) lent (λ q. h (ap (λ (x : SheetAnswer). x.refusal) e ∙ q))
 
-  pub sheet_rest : (lent out : List ℕ) → out ≡ bytes_of (number_digits t) (sheet_of t room) lent → Untouched (a.steps * sheet_line (number_digits t)) lent out
+  pub sheet_rest : (lent out : List ℕ) → out ≡ bytes_of (sheet_of t room) lent → Untouched (a.steps * sheet_line) lent out
   sheet_rest lent out w =
       let f : a.steps ≡ (answer_of (sheet_of t room)).steps = ap (λ (x : SheetAnswer). x.steps) e in
-      rw (f, w) (rest_stays (number_digits t) (sheet_of t room) lent)
+      rw (f, w) (rest_stays (sheet_of t room) lent)
 
   module _ (z : a.refusal ≡ 0) where
     pub sheet_few : a.steps ≤ most_steps
@@ -39,14 +39,11 @@ module _ (t : List ℕ) (room : ℕ) (r : longest_sheet ≤ room) (a : SheetAnsw
         let s : a.steps ≡ (answer_of (sheet_of t longest_sheet)).steps = ap (λ (x : SheetAnswer). x.steps) answered in
         omega arith
 
-    pub sheet_within : a.steps * sheet_line (number_digits t) ≤ longest_sheet
-    sheet_within = rw (ap (λ (x : SheetAnswer). x.steps) answered) (sheet_passed t).within
-
-    pub sheet_written : (lent out : List ℕ) → out ≡ bytes_of (number_digits t) (sheet_of t room) lent → take (a.steps * sheet_line (number_digits t)) out ≡ sheet_output t
+    pub sheet_written : (lent out : List ℕ) → out ≡ bytes_of (sheet_of t room) lent → take (a.steps * sheet_line) out ≡ sheet_output t
     unfolding sheet_output
     sheet_written lent out w =
-        ap (take (a.steps * sheet_line (number_digits t))) (w ∙ ap (λ (x : Shown). bytes_of (number_digits t) x lent) (enough_room t room r))
-        ∙ ap (λ (x : SheetAnswer). take (x.steps * sheet_line (number_digits t)) (bytes_of (number_digits t) (sheet_of t longest_sheet) lent)) answered
+        ap (take (a.steps * sheet_line)) (w ∙ ap (λ (x : Shown). bytes_of x lent) (enough_room t room r))
+        ∙ ap (λ (x : SheetAnswer). take (x.steps * sheet_line) (bytes_of (sheet_of t longest_sheet) lent)) answered
         ∙ (sheet_passed t).lines lent
-        ∙ sym (on_passed (number_digits t) a (bytes_of (number_digits t) (sheet_of t longest_sheet) []) z)
-        ∙ ap (λ (x : SheetAnswer). on_sheet (number_digits t) x (bytes_of (number_digits t) (sheet_of t longest_sheet) [])) answered
+        ∙ sym (on_passed a (bytes_of (sheet_of t longest_sheet) []) z)
+        ∙ ap (λ (x : SheetAnswer). on_sheet x (bytes_of (sheet_of t longest_sheet) [])) answered

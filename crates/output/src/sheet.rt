@@ -5,8 +5,7 @@ ghost use Rattle.programs.specs.Sheet.{sheet_output};
 ghost use Rattle.programs.specs.Stage.{Untouched};
 
 use super::answer::refusal_line;
-use reader::{is_long, number_digits};
-use semantics::SHEET_REST;
+use semantics::SHEET_LINE;
 use sheets::sheet;
 
 // Writes a recipe's sheet at the start of out, or its refusal line, and answers how many bytes that is.
@@ -16,9 +15,8 @@ pub fn write_sheet(text: &[u8], out: &mut [u8]) -> usize
         × Untouched result out.old out.new }
 {
     let a = sheet(text, out);
-    let digits = number_digits(is_long(text));
     if a.refusal != 0 {
-        return refusal_line(a.refusal, a.place, digits, out);
+        return refusal_line(a.refusal, a.place, out);
     }
-    a.steps as usize * (SHEET_REST + digits)
+    a.steps as usize * SHEET_LINE
 }

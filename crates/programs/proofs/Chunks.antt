@@ -53,7 +53,7 @@ course_fed chunks chunk at out s buffer w (feeds _ _ from x t b v _ o p _ _ _ k 
 stopped_owes : (s : State) (buffer w : List ℕ) (g : Reading) → Stands g s buffer w → s.stage ≡ Done → (rest : List ℕ) → owed g rest ≡ []
 unfolding owed
 stopped_owes s buffer w (heading t) h e rest = never (cc h.0)
-stopped_owes s buffer w (running d l line) h e rest = never (cc h.0)
+stopped_owes s buffer w (running l line) h e rest = never (cc h.0)
 stopped_owes s buffer w stopped h e rest = refl
 
 module _ (chunks : List (List ℕ)) (chunk out : List ℕ) (s : State) (buffer w : List ℕ) (k : Course chunks chunk (length chunk) out s buffer w) where

@@ -26,34 +26,34 @@ lines_plain (b ∷ s) line rest h =
     rw (lines_after, ne_eqb b 10 (λ (e : b ≡ 10). h 0 (omega arith) e))
     (lines_plain s (line ++ (b ∷ [])) rest (λ k q e. h (suc k) (omega arith) e) ∙ rw append_assoc)
 
-lines_ended : (w : ℕ) (l : List Step) (line rest : List ℕ) → answers w l (lines_after line (10 ∷ rest)) ≡ frame_line w l line ++ answers w l (lines_after [] rest)
+lines_ended : (l : List Step) (line rest : List ℕ) → answers l (lines_after line (10 ∷ rest)) ≡ frame_line l line ++ answers l (lines_after [] rest)
 unfolding lines_after
-lines_ended w l line rest =
-    answers-join w l (line ∷ []) (lines_after [] rest) ∙ ap (λ (x : List ℕ). x ++ answers w l (lines_after [] rest)) (answers_one w l line)
+lines_ended l line rest =
+    answers-join l (line ∷ []) (lines_after [] rest) ∙ ap (λ (x : List ℕ). x ++ answers l (lines_after [] rest)) (answers_one l line)
 
 -- ---- pieces paid for
 
-pub paid_none : (w : ℕ) (l : List Step) (line : List ℕ) → Paid w l line [] [] line
-paid_none w l line s = refl
+pub paid_none : (l : List Step) (line : List ℕ) → Paid l line [] [] line
+paid_none l line s = refl
 
-pub paid_join : (w : ℕ) (l : List Step) (line p x m q y next : List ℕ) → Paid w l line p x m → Paid w l m q y next → Paid w l line (p ++ q) (x ++ y) next
-paid_join w l line p x m q y next f g s =
-    ap (λ (z : List ℕ). answers w l (lines_after line z)) (append_assoc p q s)
+pub paid_join : (l : List Step) (line p x m q y next : List ℕ) → Paid l line p x m → Paid l m q y next → Paid l line (p ++ q) (x ++ y) next
+paid_join l line p x m q y next f g s =
+    ap (λ (z : List ℕ). answers l (lines_after line z)) (append_assoc p q s)
     ∙ f (q ++ s)
     ∙ ap (λ (z : List ℕ). x ++ z) (g s)
-    ∙ sym (append_assoc x y (answers w l (lines_after next s)))
+    ∙ sym (append_assoc x y (answers l (lines_after next s)))
 
 -- a line's bytes
-pub paid_part : (w : ℕ) (l : List Step) (line p : List ℕ) → NoFeed p → Paid w l line p [] (line ++ p)
-paid_part w l line p h s = ap (answers w l) (lines_plain p line s h)
+pub paid_part : (l : List Step) (line p : List ℕ) → NoFeed p → Paid l line p [] (line ++ p)
+paid_part l line p h s = ap (answers l) (lines_plain p line s h)
 
 -- a line's bytes and its line feed
-pub paid_line : (w : ℕ) (l : List Step) (line p x : List ℕ) → NoFeed p → x ≡ frame_line w l (line ++ p) → Paid w l line (p ++ (10 ∷ [])) x []
-paid_line w l line p x h q s =
-    ap (λ (y : List ℕ). answers w l (lines_after line y)) (append_assoc p (10 ∷ []) s)
-    ∙ ap (answers w l) (lines_plain p line (10 ∷ s) h)
-    ∙ lines_ended w l (line ++ p) s
-    ∙ ap (λ (y : List ℕ). y ++ answers w l (lines_after [] s)) (sym q)
+pub paid_line : (l : List Step) (line p x : List ℕ) → NoFeed p → x ≡ frame_line l (line ++ p) → Paid l line (p ++ (10 ∷ [])) x []
+paid_line l line p x h q s =
+    ap (λ (y : List ℕ). answers l (lines_after line y)) (append_assoc p (10 ∷ []) s)
+    ∙ ap (answers l) (lines_plain p line (10 ∷ s) h)
+    ∙ lines_ended l (line ++ p) s
+    ∙ ap (λ (y : List ℕ). y ++ answers l (lines_after [] s)) (sym q)
 
 -- ---- no line feed
 
@@ -89,35 +89,35 @@ kept_none line buffer n g z = g.whole (omega arith) ∙ rw z
 
 -- ---- a piece of a chunk
 
-module _ (w : ℕ) (l : List Step) (line c : List ℕ) (from e : ℕ) (d : LineEnd c from e) where
+module _ (l : List Step) (line c : List ℕ) (from e : ℕ) (d : LineEnd c from e) where
   -- the chunk ends in the line
-  pub handled_part : (n : ℕ) (buffer : List ℕ) → Kept (line ++ between from e c) n buffer → NoFeed line → Handled w l line (between from e c) [] n buffer
+  pub handled_part : (n : ℕ) (buffer : List ℕ) → Kept (line ++ between from e c) n buffer → NoFeed line → Handled l line (between from e c) [] n buffer
   handled_part n buffer g f =
       record {
         next = line ++ between from e c;
         kept = g;
         plain = plain_join line (between from e c) f (plain_piece c from e d);
-        owes = paid_part w l line (between from e c) (plain_piece c from e d);
+        owes = paid_part l line (between from e c) (plain_piece c from e d);
       }
 
   -- the line's end is in the chunk
-  pub handled_line : (buffer x : List ℕ) → e < length c → x ≡ frame_line w l (line ++ between from e c) → Handled w l line (between from (e + 1) c) x 0 buffer
+  pub handled_line : (buffer x : List ℕ) → e < length c → x ≡ frame_line l (line ++ between from e c) → Handled l line (between from (e + 1) c) x 0 buffer
   handled_line buffer x h q =
       record {
         next = [];
         kept = kept_nothing buffer;
         plain = plain_none;
-        owes = rw (ended_piece c from e d h) (paid_line w l line (between from e c) x (plain_piece c from e d) q);
+        owes = rw (ended_piece c from e d h) (paid_line l line (between from e c) x (plain_piece c from e d) q);
       }
 
-module _ (w : ℕ) (l : List Step) (v c : List ℕ) (from : ℕ) (r : Lines) (out : List ℕ) (a : Answered w v c from r out) (g : Holds l v) where
+module _ (l : List Step) (w c : List ℕ) (from : ℕ) (r : Lines) (out : List ℕ) (a : Answered w c from r out) (g : Holds l w) where
   -- whole lines
-  pub handled_full : (buffer : List ℕ) → Handled w l [] (between from r.at c) (take r.put out) 0 buffer
+  pub handled_full : (buffer : List ℕ) → Handled l [] (between from r.at c) (take r.put out) 0 buffer
   handled_full buffer = record { next = []; kept = kept_nothing buffer; plain = plain_none; owes = a.paid l g }
 
   -- whole lines, and the start of another
   pub handled_rest : (n : ℕ) (buffer : List ℕ) → r.full ≡ false → Kept ([] ++ between r.at (length c) c) n buffer
-      → Handled w l [] (between from (length c) c) (take r.put out) n buffer
+      → Handled l [] (between from (length c) c) (take r.put out) n buffer
   handled_rest n buffer z k =
       let d = a.rest z in
       let p = between r.at (length c) c in
@@ -126,5 +126,5 @@ module _ (w : ℕ) (l : List Step) (v c : List ℕ) (from : ℕ) (r : Lines) (ou
         kept = k;
         plain = plain_piece c r.at (length c) d;
         owes = rw (between_join c from r.at (length c) a.after a.within)
-            (rw append-nil at (paid_join w l [] (between from r.at c) (take r.put out) [] p [] p (a.paid l g) (paid_part w l [] p (plain_piece c r.at (length c) d))));
+            (rw append-nil at (paid_join l [] (between from r.at c) (take r.put out) [] p [] p (a.paid l g) (paid_part l [] p (plain_piece c r.at (length c) d))));
       }

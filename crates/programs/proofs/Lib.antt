@@ -9,8 +9,6 @@ pub mod Laws
 pub mod Sheets
 pub mod Explanations
 pub mod Batches
-pub mod Told
-pub mod Kept
 pub mod Words
 pub mod Stages
 pub mod Chunks

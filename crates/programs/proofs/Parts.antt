@@ -12,7 +12,7 @@ use Rattle.programs.specs.Output.{parted, endless, looked_at, last_byte, part_af
 
 -- ---- one byte more
 
-pub part_endless : (t s : List ℕ) (b : ℕ) → looked_at ≤ length t → part_after t (b ∷ s) ≡ endless t
+pub part_endless : (t s : List ℕ) (b : ℕ) → looked_at ≤ length t → part_after t (b ∷ s) ≡ endless
 unfolding part_after
 part_endless t s b h = rw (part_after, le-leb looked_at (length t) h)
 

@@ -1,7 +1,6 @@
 -- From stage to stage: the recipe's end, a refused recipe, a chunk of frames, the input's end. Each law is the one step of `owed` that the code
 -- takes there, and says what reading the state then stands for. Assumes nothing.
 use mathlib.Core.Path.{◌≡◌, refl, ap, ◌∙◌, sym}
-use mathlib.Core.Bool.{Bool, false}
 use mathlib.Core.List.{List, [], ◌∷◌, ◌++◌, append-nil}
 use mathlib.Core.Logic.{⊎_elim}
 use Prim.Native.Nat.{ℕ, ◌*◌, ◌≤◌, ◌<◌}
@@ -10,7 +9,7 @@ use lib.ListN.{length, take}
 use lib.Seq.{length-take-le}
 use Rattle.recipe.specs.declared.Step.{Step}
 use Rattle.recipe.specs.declared.Reading.{Reading as Read}
-use Rattle.recipe.specs.Text.{most_steps, is_long, read_any, digits_by, number_digits}
+use Rattle.recipe.specs.Text.{short, most_steps, read_text}
 use Rattle.recipe.specs.Packed.{steps_in}
 use Rattle.recipe.specs.Answer.{Says, Holds}
 use Rattle.recipe.proofs.Counts.{never}
@@ -27,12 +26,12 @@ use Rattle.programs.proofs.FrameLines.{kept_nothing, plain_none}
 
 -- ---- a recipe that was read
 
-module _ (t : List ℕ) (r : Read) (w : List ℕ) (g : Says (read_any t) r w) (more : List Step → List ℕ) where
-  pub read_refused : (r.refusal ≡ 0 → ⊥) → on_recipe (number_digits t) (read_any t) more ≡ refusal_line (number_digits t) r.refusal r.place.0
-  read_refused h = refused-recipe (number_digits t) (read_any t) more r.refusal r.place.0 (answer_refused t r w g h)
+module _ (t : List ℕ) (r : Read) (w : List ℕ) (g : Says (read_text short t) r w) (more : List Step → List ℕ) where
+  pub read_refused : (r.refusal ≡ 0 → ⊥) → on_recipe (read_text short t) more ≡ refusal_line r.refusal r.place.0
+  read_refused h = refused-recipe (read_text short t) more r.refusal r.place.0 (answer_refused t r w g h)
 
-  pub read_passed : r.refusal ≡ 0 → on_recipe (number_digits t) (read_any t) more ≡ more (steps_in w r.count)
-  read_passed h = passed-recipe (number_digits t) (read_any t) more (steps_in w r.count) (answer_steps t r w g h)
+  pub read_passed : r.refusal ≡ 0 → on_recipe (read_text short t) more ≡ more (steps_in w r.count)
+  read_passed h = passed-recipe (read_text short t) more (steps_in w r.count) (answer_steps t r w g h)
 
 -- ---- the recipe's end
 
@@ -45,7 +44,7 @@ module _ (t piece : List ℕ) (n : ℕ) (buffer w : List ℕ) (end : End) (few :
   heads : (s : List ℕ) → owed (heading t) (piece ++ s) ≡ output_of (parts end (take n buffer) s)
   heads s = owed_heading t (piece ++ s) ∙ ap output_of (e s)
 
-  pub fed_missing : end ≡ Missing → Fed (heading t) piece [] (record { stage = Recipe; count = n; steps = 0; long = false }) buffer w
+  pub fed_missing : end ≡ Missing → Fed (heading t) piece [] (record { stage = Recipe; count = n; steps = 0 }) buffer w
   unfolding owed
   fed_missing q =
       record {
@@ -54,8 +53,8 @@ module _ (t piece : List ℕ) (n : ℕ) (buffer w : List ℕ) (end : End) (few :
         owes = λ s. heads s ∙ ap (λ (x : End). output_of (parts x (take n buffer) s)) q;
       }
 
-  pub fed_endless : (line : List ℕ) → end ≡ Endless → line ≡ refusal_line (number_digits (take n buffer)) 10 0
-      → Fed (heading t) piece line (record { stage = Done; count = 0; steps = 0; long = false }) buffer w
+  pub fed_endless : (line : List ℕ) → end ≡ Endless → line ≡ refusal_line 10 0
+      → Fed (heading t) piece line (record { stage = Done; count = 0; steps = 0 }) buffer w
   unfolding owed output_of
   fed_endless line q x =
       record {
@@ -64,13 +63,13 @@ module _ (t piece : List ℕ) (n : ℕ) (buffer w : List ℕ) (end : End) (few :
         owes = λ s. heads s ∙ ap (λ (x : End). output_of (parts x (take n buffer) s)) q ∙ sym x ∙ sym (append-nil line);
       }
 
-  module _ (r : Read) (line : List ℕ) (q : end ≡ Empty) (g : Says (read_any (take n buffer)) r w)
-      (x : line ≡ on_recipe (number_digits (take n buffer)) (read_any (take n buffer)) (λ l. [])) where
-    opens : (s : List ℕ) → owed (heading t) (piece ++ s) ≡ on_recipe (number_digits (take n buffer)) (read_any (take n buffer)) (λ l. answers (number_digits (take n buffer)) l (lines_after [] s))
+  module _ (r : Read) (line : List ℕ) (q : end ≡ Empty) (g : Says (read_text short (take n buffer)) r w)
+      (x : line ≡ on_recipe (read_text short (take n buffer)) (λ l. [])) where
+    opens : (s : List ℕ) → owed (heading t) (piece ++ s) ≡ on_recipe (read_text short (take n buffer)) (λ l. answers l (lines_after [] s))
     unfolding output_of
     opens s = heads s ∙ ap (λ (x : End). output_of (parts x (take n buffer) s)) q
 
-    pub fed_refused : (r.refusal ≡ 0 → ⊥) → Fed (heading t) piece line (record { stage = Done; count = 0; steps = 0; long = false }) buffer w
+    pub fed_refused : (r.refusal ≡ 0 → ⊥) → Fed (heading t) piece line (record { stage = Done; count = 0; steps = 0 }) buffer w
     unfolding owed
     fed_refused h =
         record {
@@ -78,78 +77,77 @@ module _ (t piece : List ℕ) (n : ℕ) (buffer w : List ℕ) (end : End) (few :
           stands = refl;
           owes = λ s.
               opens s
-              ∙ read_refused (take n buffer) r w g (λ l. answers (number_digits (take n buffer)) l (lines_after [] s)) h
+              ∙ read_refused (take n buffer) r w g (λ l. answers l (lines_after [] s)) h
               ∙ sym (x ∙ read_refused (take n buffer) r w g (λ l. []) h)
               ∙ sym (append-nil line);
         }
 
     pub fed_opened : 3 * most_steps ≤ length w → r.refusal ≡ 0
-        → Fed (heading t) piece line (record { stage = Frames; count = 0; steps = r.count; long = is_long (take n buffer) }) buffer w
+        → Fed (heading t) piece line (record { stage = Frames; count = 0; steps = r.count }) buffer w
     unfolding owed
     fed_opened m h =
         let l = steps_in w r.count in
         let c = answer_count (take n buffer) r w g h in
         let f : 3 * r.count ≤ length w = omega (arith, c.1) in
         record {
-          next = running (number_digits (take n buffer)) l [];
-          stands = (refl, refl, f, answer_holds (take n buffer) r w g h f, kept_nothing buffer, plain_none);
+          next = running l [];
+          stands = (refl, f, answer_holds (take n buffer) r w g h f, kept_nothing buffer, plain_none);
           owes = λ s.
               opens s
-              ∙ read_passed (take n buffer) r w g (λ l. answers (number_digits (take n buffer)) l (lines_after [] s)) h
-              ∙ ap (λ (y : List ℕ). y ++ answers (number_digits (take n buffer)) l (lines_after [] s)) (sym (x ∙ read_passed (take n buffer) r w g (λ l. []) h));
+              ∙ read_passed (take n buffer) r w g (λ l. answers l (lines_after [] s)) h
+              ∙ ap (λ (y : List ℕ). y ++ answers l (lines_after [] s)) (sym (x ∙ read_passed (take n buffer) r w g (λ l. []) h));
         }
 
 -- ---- frames
 
-pub fed_frames : (x : Bool) (l : List Step) (line piece written : List ℕ) (k n : ℕ) (buffer w : List ℕ) → 3 * k ≤ length w → Holds l (take (3 * k) w)
-    → Handled (digits_by x) l line piece written n buffer
-    → Fed (running (digits_by x) l line) piece written (record { stage = Frames; count = n; steps = k; long = x }) buffer w
+pub fed_frames : (l : List Step) (line piece written : List ℕ) (k n : ℕ) (buffer w : List ℕ) → 3 * k ≤ length w → Holds l (take (3 * k) w)
+    → Handled l line piece written n buffer → Fed (running l line) piece written (record { stage = Frames; count = n; steps = k }) buffer w
 unfolding owed
-fed_frames x l line piece written k n buffer w f g a =
-    record { next = running (digits_by x) l a.next; stands = (refl, refl, f, g, a.kept, a.plain); owes = a.owes }
+fed_frames l line piece written k n buffer w f g a =
+    record { next = running l a.next; stands = (refl, f, g, a.kept, a.plain); owes = a.owes }
 
 -- ---- which reading a state stands for
 
 pub stands_count : (g : Reading) (s : State) (buffer w : List ℕ) → Stands g s buffer w → s.stage ≡ Recipe → s.count ≤ looked_at
 stands_count (heading t) s buffer w h e = h.1
-stands_count (running d l line) s buffer w h e = never (cc h.0)
+stands_count (running l line) s buffer w h e = never (cc h.0)
 stands_count stopped s buffer w h e = never (cc)
 
 pub stands_steps : (g : Reading) (s : State) (buffer w : List ℕ) → Stands g s buffer w → s.stage ≡ Frames → 3 * s.steps ≤ length w
 stands_steps (heading t) s buffer w h e = never (cc h.0)
-stands_steps (running d l line) s buffer w h e = h.2
+stands_steps (running l line) s buffer w h e = h.1
 stands_steps stopped s buffer w h e = never (cc)
 
 module _ (piece written : List ℕ) (s next : State) (buffer w after v : List ℕ) where
   pub fed_at_recipe : (g : Reading) → Stands g s buffer w → s.stage ≡ Recipe → Fed (heading (take s.count buffer)) piece written next after v
       → Fed g piece written next after v
   fed_at_recipe (heading t) h e f = rw h.2 f
-  fed_at_recipe (running d l line) h e f = never (cc h.0)
+  fed_at_recipe (running l line) h e f = never (cc h.0)
   fed_at_recipe stopped h e f = never (cc)
 
   pub fed_at_frames : (g : Reading) → Stands g s buffer w → s.stage ≡ Frames
-      → ((l : List Step) (line : List ℕ) → Holds l (take (3 * s.steps) w) → Kept line s.count buffer → NoFeed line → Fed (running (digits_by s.long) l line) piece written next after v)
+      → ((l : List Step) (line : List ℕ) → Holds l (take (3 * s.steps) w) → Kept line s.count buffer → NoFeed line → Fed (running l line) piece written next after v)
       → Fed g piece written next after v
   fed_at_frames (heading t) h e f = never (cc h.0)
-  fed_at_frames (running d l line) h e f = rw h.1 (f l line h.3 h.4 h.5)
+  fed_at_frames (running l line) h e f = f l line h.2 h.3 h.4
   fed_at_frames stopped h e f = never (cc)
 
 pub fed_at_done : (piece : List ℕ) (s : State) (buffer w : List ℕ) (g : Reading) → Stands g s buffer w → s.stage ≡ Done → Fed g piece [] s buffer w
 unfolding owed
 fed_at_done piece s buffer w (heading t) h e = never (cc h.0)
-fed_at_done piece s buffer w (running d l line) h e = never (cc h.0)
+fed_at_done piece s buffer w (running l line) h e = never (cc h.0)
 fed_at_done piece s buffer w stopped h e = record { next = stopped; stands = h; owes = λ _. refl }
 
 -- ---- the input's end
 
-last_none : (d : ℕ) (l : List Step) (line : List ℕ) → line ≡ [] → answers d l (last_line line) ≡ []
+last_none : (l : List Step) (line : List ℕ) → line ≡ [] → answers l (last_line line) ≡ []
 unfolding last_line
-last_none d l line e = rw e (answers-none d l)
+last_none l line e = rw e (answers-none l)
 
-last_some : (d : ℕ) (l : List Step) (line : List ℕ) → 0 < length line → answers d l (last_line line) ≡ frame_line d l line
+last_some : (l : List Step) (line : List ℕ) → 0 < length line → answers l (last_line line) ≡ frame_line l line
 unfolding last_line
-last_some d l [] h = absurd (omega arith)
-last_some d l (b ∷ line) h = answers_one d l (b ∷ line)
+last_some l [] h = absurd (omega arith)
+last_some l (b ∷ line) h = answers_one l (b ∷ line)
 
 kept_some : (line buffer : List ℕ) (n : ℕ) → Kept line n buffer → 256 ≤ length buffer → 0 < n → 0 < length line
 kept_some line buffer n g h k =
@@ -160,28 +158,28 @@ kept_some line buffer n g h k =
 
 module _ (s : State) (buffer w : List ℕ) where
   pub finished_recipe : (line : List ℕ) (g : Reading) → Stands g s buffer w → s.stage ≡ Recipe
-      → line ≡ on_recipe (number_digits (take s.count buffer)) (read_any (take s.count buffer)) (λ l. []) → Finished g line
+      → line ≡ on_recipe (read_text short (take s.count buffer)) (λ l. []) → Finished g line
   unfolding owed part_after output_of
   finished_recipe line (heading t) h e x = rw h.2 (sym x)
-  finished_recipe line (running d l m) h e x = never (cc h.0)
+  finished_recipe line (running l m) h e x = never (cc h.0)
   finished_recipe line stopped h e x = never (cc)
 
   pub finished_between : (g : Reading) → Stands g s buffer w → s.stage ≡ Frames → s.count ≡ 0 → Finished g []
   unfolding owed lines_after
   finished_between (heading t) h e z = never (cc h.0)
-  finished_between (running d l line) h e z = last_none d l line (h.4.whole (omega arith) ∙ rw z)
+  finished_between (running l line) h e z = last_none l line (h.3.whole (omega arith) ∙ rw z)
   finished_between stopped h e z = never (cc)
 
   pub finished_line : (x : List ℕ) (g : Reading) → Stands g s buffer w → s.stage ≡ Frames → (s.count ≡ 0 → ⊥) → 256 ≤ length buffer
-      → ((l : List Step) (line : List ℕ) → Holds l (take (3 * s.steps) w) → Kept line s.count buffer → x ≡ frame_line (digits_by s.long) l line) → Finished g x
+      → ((l : List Step) (line : List ℕ) → Holds l (take (3 * s.steps) w) → Kept line s.count buffer → x ≡ frame_line l line) → Finished g x
   unfolding owed lines_after
   finished_line x (heading t) h e z b f = never (cc h.0)
-  finished_line x (running d l line) h e z b f =
-      last_some d l line (kept_some line buffer s.count h.4 b (omega arith)) ∙ rw h.1 (sym (f l line h.3 h.4))
+  finished_line x (running l line) h e z b f =
+      last_some l line (kept_some line buffer s.count h.3 b (omega arith)) ∙ sym (f l line h.2 h.3)
   finished_line x stopped h e z b f = never (cc)
 
   pub finished_done : (g : Reading) → Stands g s buffer w → s.stage ≡ Done → Finished g []
   unfolding owed
   finished_done (heading t) h e = never (cc h.0)
-  finished_done (running d l line) h e = never (cc h.0)
+  finished_done (running l line) h e = never (cc h.0)
   finished_done stopped h e = refl

@@ -2,7 +2,7 @@
 -- assumes nothing.
 use Rattle.std.specs.Prelude.{true, false, cond, List, [], ◌∷◌, ◌++◌, ℕ, suc, ◌+◌, ◌-◌, ltb, eqb, length, drop}
 use Rattle.recipe.specs.declared.Step.{Step}
-use Rattle.recipe.specs.Text.{Text, steps, read_any, number_digits}
+use Rattle.recipe.specs.Text.{Text, steps, short, read_text}
 use Rattle.recipe.specs.Text as text
 use Rattle.programs.specs.declared.LinesAnswer.{LinesAnswer}
 use Rattle.programs.specs.Output.{frame_line, answers}
@@ -19,9 +19,9 @@ abbrev pub answer_line_bytes : ℕ
 answer_line_bytes = 19
 
 -- those of the lines that are answered with so much room: one after another, while there is room for the longest answer
-unfoldable pub answered_in : ℕ → List Step → ℕ → List (List ℕ) → List (List ℕ)
-answered_in w l room [] = []
-answered_in w l room (x ∷ xs) = elim (ltb room answer_line_bytes) [ true ↦ [] | false ↦ x ∷ answered_in w l (room - length (frame_line w l x)) xs ]
+unfoldable pub answered_in : List Step → ℕ → List (List ℕ) → List (List ℕ)
+answered_in l room [] = []
+answered_in l room (x ∷ xs) = elim (ltb room answer_line_bytes) [ true ↦ [] | false ↦ x ∷ answered_in l (room - length (frame_line l x)) xs ]
 
 -- the bytes of some lines, line feeds counted
 unfoldable pub line_bytes : List (List ℕ) → ℕ
@@ -35,22 +35,22 @@ pub data Batch : Type 0 where
   answered : ℕ → List ℕ → Batch
   refused : ℕ → ℕ → Batch
 
-abbrev pub answers_to : ℕ → List Step → List (List ℕ) → Batch
-answers_to w l lines = answered (line_bytes lines) (answers w l lines)
+abbrev pub answers_to : List Step → List (List ℕ) → Batch
+answers_to l lines = answered (line_bytes lines) (answers l lines)
 
--- the steps l on the frame lines s, places written with w digits, with room for so many bytes
-unfoldable pub batch_steps : ℕ → List Step → List ℕ → ℕ → Batch
-batch_steps w l s room = cond (ltb room answer_line_bytes) (refused 40 0) (answers_to w l (answered_in w l room (ended_after [] s)))
+-- the steps l on the frame lines s, with room for so many bytes
+unfoldable pub batch_steps : List Step → List ℕ → ℕ → Batch
+batch_steps l s room = cond (ltb room answer_line_bytes) (refused 40 0) (answers_to l (answered_in l room (ended_after [] s)))
 
 -- ---- the call on a text: 10 to 17 before all others
 
-unfoldable pub on_text : ℕ → Text → List ℕ → ℕ → Batch
-on_text w (steps l) s room = batch_steps w l s room
-on_text w (text.refused number place) s room = refused number place
+unfoldable pub on_text : Text → List ℕ → ℕ → Batch
+on_text (steps l) s room = batch_steps l s room
+on_text (text.refused number place) s room = refused number place
 
 -- the recipe t on the frame lines s, with room for so many bytes
 unfoldable pub batch_of : List ℕ → List ℕ → ℕ → Batch
-batch_of t s room = on_text (number_digits t) (read_any t) s room
+batch_of t s room = on_text (read_text short t) s room
 
 -- ---- what is answered, and the lent bytes before and after
 

@@ -2,7 +2,6 @@
 -- that was read in words. Definitions only; assumes nothing.
 use Rattle.std.specs.Prelude.{◌≡◌, Bool, true, false, List, [], ◌++◌, ℕ, ◌*◌, ◌-◌, ◌≤◌, ◌<◌, length, get_or, take, drop}
 use Rattle.recipe.specs.declared.Step.{Step}
-use Rattle.recipe.specs.Text.{digits_by}
 use Rattle.recipe.specs.Answer.{Holds}
 use Rattle.programs.specs.declared.Stage.{Stage}
 use Rattle.programs.specs.declared.Stage.TheVariants.{Recipe, Frames, Done}
@@ -18,15 +17,15 @@ use Rattle.programs.specs.Batch.{answered, batch_steps}
 pub data Reading : Type 0 where
   -- in the recipe, after these bytes
   heading : List ℕ → Reading
-  -- in the frames of a recipe that was read, of these steps, places written with so many digits, after these bytes of a line
-  running : ℕ → List Step → List ℕ → Reading
+  -- in the frames of a recipe that was read, of these steps, after these bytes of a line
+  running : List Step → List ℕ → Reading
   -- after a refused recipe
   stopped : Reading
 
 -- what is written from here on, if the input goes on with s and ends there
 unfoldable pub owed : Reading → List ℕ → List ℕ
 owed (heading t) s = output_of (part_after t s)
-owed (running w l line) s = answers w l (lines_after line s)
+owed (running l line) s = answers l (lines_after line s)
 owed stopped s = []
 
 -- nothing is, whatever follows
@@ -51,8 +50,8 @@ pub record Kept (line : List ℕ) (n : ℕ) (buffer : List ℕ) : Type 0 where
 -- recipe's steps.
 abbrev pub Stands : Reading → State → List ℕ → List ℕ → Type 0
 Stands (heading t) s buffer w = (s.stage ≡ Recipe) × (s.count ≤ looked_at) × (t ≡ take s.count buffer)
-Stands (running d l line) s buffer w =
-    (s.stage ≡ Frames) × (d ≡ digits_by s.long) × (3 * s.steps ≤ length w) × Holds l (take (3 * s.steps) w) × Kept line s.count buffer × NoFeed line
+Stands (running l line) s buffer w =
+    (s.stage ≡ Frames) × (3 * s.steps ≤ length w) × Holds l (take (3 * s.steps) w) × Kept line s.count buffer × NoFeed line
 Stands stopped s buffer w = s.stage ≡ Done
 
 -- the state stands for some reading
@@ -85,28 +84,28 @@ pub record LineEnd (s : List ℕ) (from to : ℕ) : Type 0 where
 abbrev pub parts : End → List ℕ → List ℕ → Input
 parts Missing t s = part_after t s
 parts Empty t s = parted t s
-parts Endless t s = endless t
+parts Endless t s = endless
 
 -- a piece of frame lines read after a part of a line: what was due on it is written, and the part is then another
-abbrev pub Paid : ℕ → List Step → List ℕ → List ℕ → List ℕ → List ℕ → Type 0
-Paid d l line piece written next = (s : List ℕ) → answers d l (lines_after line (piece ++ s)) ≡ written ++ answers d l (lines_after next s)
+abbrev pub Paid : List Step → List ℕ → List ℕ → List ℕ → List ℕ → Type 0
+Paid l line piece written next = (s : List ℕ) → answers l (lines_after line (piece ++ s)) ≡ written ++ answers l (lines_after next s)
 
 -- the same where the piece is of whole lines, and the words w hold the steps; full says that the output had no room for more
-pub record Answered (d : ℕ) (w s : List ℕ) (from : ℕ) (r : Lines) (out : List ℕ) : Type 0 where
+pub record Answered (w s : List ℕ) (from : ℕ) (r : Lines) (out : List ℕ) : Type 0 where
   pub after : from ≤ r.at
   pub within : r.at ≤ length s
   pub moved : r.full ≡ true → from < r.at
   pub rest : r.full ≡ false → LineEnd s r.at (length s)
-  pub paid : (l : List Step) → Holds l w → Paid d l [] (between from r.at s) (take r.put out) []
+  pub paid : (l : List Step) → Holds l w → Paid l [] (between from r.at s) (take r.put out) []
   -- which lines: as many as the room is for
-  pub batch : (l : List Step) → Holds l w → batch_steps d l (drop from s) (length out) ≡ answered (r.at - from) (take r.put out)
+  pub batch : (l : List Step) → Holds l w → batch_steps l (drop from s) (length out) ≡ answered (r.at - from) (take r.put out)
 
 -- the same of any piece, with what is kept of the line
-pub record Handled (d : ℕ) (l : List Step) (line piece written : List ℕ) (n : ℕ) (buffer : List ℕ) : Type 0 where
+pub record Handled (l : List Step) (line piece written : List ℕ) (n : ℕ) (buffer : List ℕ) : Type 0 where
   pub next : List ℕ
   pub kept : Kept next n buffer
   pub plain : NoFeed next
-  pub owes : Paid d l line piece written next
+  pub owes : Paid l line piece written next
 
 -- a piece of the input read, and what was due on it written
 pub record Fed (g : Reading) (piece written : List ℕ) (s : State) (buffer w : List ℕ) : Type 0 where

@@ -15,14 +15,13 @@ pub enum Stage {
 }
 
 // What is known after some of the input. In the recipe, count bytes of it stand in the buffer. In the frames, the recipe was read, and the
-// lent words hold its steps, as many as `steps` says, and `long` says whether its text is in the long form; count bytes of the present line stand
-// in the buffer, or count is 257, and the line is longer than the longest frame.
+// lent words hold its steps, as many as `steps` says; count bytes of the present line stand in the buffer, or count is 257, and the line is
+// longer than the longest frame.
 #[derive(Drop)]
 pub struct State {
     pub stage: Stage,
     pub count: usize,
     pub steps: usize,
-    pub long: bool,
 }
 
 // Whether the empty line was found: not yet, yes, or not in the bytes in which it is looked for.

@@ -10,7 +10,7 @@ use lib.Dec.{ltb}
 use lib.IntN.{pos}
 use lib.ListN.{length, take, drop, set, get_or, replicate}
 use Rattle.recipe.specs.declared.Step.{Step}
-use Rattle.recipe.specs.Text.{first, second}
+use Rattle.recipe.specs.Text.{most_steps, first, second}
 use Rattle.recipe.specs.Packed.{step_at, steps_in}
 use Rattle.recipe.proofs.Packed.{next_step, none_left}
 use Rattle.semantics.specs.Range.{step_range}
@@ -48,43 +48,43 @@ module _ {X : Type 0} (all : List range.Range → X) (stop : ℕ → Step → Li
 
   -- ---- the ranges
 
-  -- of the n steps in the words w, i have their ranges, the first i of `ranges`, an array of so many
-  pub record Walked (size : ℕ) (w : List ℕ) (n : ℕ) (ranges : List Range) (i : ℕ) : Type 0 where
+  -- of the n steps in the words w, i have their ranges, the first i of `ranges`
+  pub record Walked (w : List ℕ) (n : ℕ) (ranges : List Range) (i : ℕ) : Type 0 where
     pub within : i ≤ n
-    pub filled : Filled size start RealRange ranges i
+    pub filled : Filled start RealRange ranges i
     pub same : folded all stop (steps_in w n) 0 [] ≡ folded all stop (drop i (steps_in w n)) i (map seen_range (take i ranges))
 
-  pub walked_start : (size : ℕ) (w : List ℕ) (n : ℕ) → Walked size w n (replicate size start) 0
-  walked_start size w n = record { within = omega arith; filled = filled_start size start RealRange tt; same = refl }
+  pub walked_start : (w : List ℕ) (n : ℕ) → Walked w n (replicate most_steps start) 0
+  walked_start w n = record { within = omega arith; filled = filled_start start RealRange tt; same = refl }
 
-  module _ (size : ℕ) (w : List ℕ) (n : ℕ) (ranges : List Range) (i : ℕ) (g : Walked size w n ranges i) where
+  module _ (w : List ℕ) (n : ℕ) (ranges : List Range) (i : ℕ) (g : Walked w n ranges i) where
     -- no place holds a NaN
-    pub fetch_real : (f : ℕ) (d : Range) → f < size → RealRange (get_or ranges f d)
-    fetch_real f d h = fetch_all size start RealRange ranges i g.filled f d h
+    pub fetch_real : (f : ℕ) (d : Range) → f < most_steps → RealRange (get_or ranges f d)
+    fetch_real f d h = fetch_all start RealRange ranges i g.filled f d h
 
-    module _ (h : i < n) (m : n ≤ size) (t : Step) (et : t ≡ step_at w i)
+    module _ (h : i < n) (m : n ≤ most_steps) (t : Step) (et : t ≡ step_at w i)
         (f₁ f₂ : ℕ) (z : Range) (e₁ : f₁ ≡ cond (ltb (first t) i) (first t) i) (e₂ : f₂ ≡ cond (ltb (second t) i) (second t) i) where
       left : drop i (steps_in w n) ≡ t ∷ drop (i + 1) (steps_in w n)
       left = rw et (next_step w n i h)
 
       -- the operands that the loop fetched are those of the rule
       pub fetched_first : seen_range (get_or ranges f₁ z) ≡ get_or (map seen_range (take i ranges)) (first t) (range.wholes (pos 0) (pos 0))
-      fetched_first = fetch size start RealRange ranges i g.filled seen_range (first t) f₁ z (omega arith) e₁
+      fetched_first = fetch start RealRange ranges i g.filled seen_range (first t) f₁ z (omega arith) e₁
 
       pub fetched_second : seen_range (get_or ranges f₂ z) ≡ get_or (map seen_range (take i ranges)) (second t) (range.wholes (pos 0) (pos 0))
-      fetched_second = fetch size start RealRange ranges i g.filled seen_range (second t) f₂ z (omega arith) e₂
+      fetched_second = fetch start RealRange ranges i g.filled seen_range (second t) f₂ z (omega arith) e₂
 
       module _ (r : Bound) (er : bound_of r ≡ carried (step_range t (seen_range (get_or ranges f₁ z)) (seen_range (get_or ranges f₂ z)))) where
         did : carried (step_on t (map seen_range (take i ranges))) ≡ bound_of r
         did = rw (sym fetched_first, sym fetched_second) (sym er)
 
-        pub walked_more : (v : Range) → r ≡ Ranged v → RealBound r → Walked size w n (set ranges i v) (i + 1)
+        pub walked_more : (v : Range) → r ≡ Ranged v → RealBound r → Walked w n (set ranges i v) (i + 1)
         walked_more v e y =
             let b : i < length ranges = omega (arith, g.filled.long) in
             let x : RealRange v = rw e at y in
             record {
               within = omega arith;
-              filled = filled_more size start RealRange ranges i g.filled v x (omega arith);
+              filled = filled_more start RealRange ranges i g.filled v x (omega arith);
               same = g.same
                   ∙ rw (left, grow ranges i v b, map-append, add-one)
                   (step_good t (drop (suc i) (steps_in w n)) i (map seen_range (take i ranges)) (seen_range v) (did ∙ ap bound_of e));

@@ -3,4 +3,3 @@ mod Fields
 mod Steps
 mod Known
 mod Reading
-mod Told

@@ -3,109 +3,96 @@
 use mathlib.Core.Path.{◌≡◌, refl, ap, ◌∙◌, sym}
 use mathlib.Core.Bool.{true, false, cond}
 use mathlib.Core.List.{List, [], ◌∷◌, ◌++◌}
-use Prim.Native.Nat.{ℕ, ◌+◌, ◌-◌, ◌*◌, ◌/◌, ◌≤◌, ◌<◌}
+use Prim.Native.Nat.{ℕ, ◌+◌, ◌-◌, ◌*◌, ◌/◌, ◌%◌, ◌≤◌, ◌<◌}
 use native.Mathlib.Omega.{arith}
-use native.Mathlib.Nat.{div-mul-le_self, mul-le-mul_right}
 use lib.ListN.{length, get_or, set, drop}
 use Rattle.recipe.specs.declared.Step.{Step}
 use Rattle.recipe.specs.declared.Reading.{Reading}
 use Rattle.recipe.specs.Table.{row_of, is_input, kind_number}
-use Rattle.recipe.specs.Text.{Form, most_steps, line_length, Line, good, malformed, kind_of, step_refusal, line_at, read_from, bad_length, read_text}
+use Rattle.recipe.specs.Text.{most_steps, short, line_length, longest, good, malformed, kind_of, step_refusal, line_at, read_from, bad_length, read_text}
 use Rattle.recipe.specs.Packed.{put_at, put_steps, steps_in}
 use Rattle.recipe.specs.Answer.{Says, Leaves, Refused}
-use Rattle.recipe.proofs.Formed.{lines_counted}
+use Rattle.recipe.proofs.Counts.{whole_lines}
 use Rattle.recipe.proofs.Packed.{steps_length, put_length, put_steps_rest, put_steps_more}
 use Rattle.recipe.proofs.Checks.{bad_text}
 use Rattle.reader.specs.Checks.{Known}
 use Rattle.reader.proofs.Steps.{read_good, read_refused, read_malformed, read_done, good_text}
 use Rattle.reader.proofs.Known.{known_none, known_more}
 
--- of the text s, of n lines, i are read, and the next starts at a byte: their steps stand in the words w, which were v, with what is kept beside them
-pub record Going (f : Form) (s : List ℕ) (n : ℕ) (v w kinds : List ℕ) (inputs at i : ℕ) : Type 0 where
+-- of the text s, of n lines, i are read: their steps stand in the words w, which were v, with what is kept beside them
+pub record Going (s : List ℕ) (n : ℕ) (v w kinds : List ℕ) (inputs i : ℕ) : Type 0 where
   pub within : i ≤ n
   pub room : n ≤ most_steps
-  pub whole : n * line_length f ≤ length s
-  pub start : at ≡ i * line_length f
-  pub wide : 3 * n ≤ length v
+  pub whole : n * line_length short ≤ length s
+  pub wide : 3 * most_steps ≤ length v
   pub long : length w ≡ length v
   pub put : w ≡ put_steps v (steps_in w i) i
   pub few : inputs ≤ i
   pub known : Known (steps_in w i) i inputs kinds
-  pub same : read_text f s ≡ read_from f s (n - i) i (steps_in w i)
+  pub same : read_text short s ≡ read_from short s (n - i) i (steps_in w i)
 
-pub going_start : (f : Form) (s v kinds : List ℕ) → f.most ≤ most_steps → (bad_length f (length s) ≡ false → 3 * (length s / line_length f) ≤ length v)
-    → length kinds ≡ most_steps → ((k : ℕ) → k < most_steps → get_or kinds k 0 ≡ 1) → bad_length f (length s) ≡ false
-    → Going f s (length s / line_length f) v v kinds 0 0 0
+pub going_start : (s v kinds : List ℕ) → 3 * most_steps ≤ length v → length kinds ≡ most_steps → ((k : ℕ) → k < most_steps → get_or kinds k 0 ≡ 1)
+    → bad_length short (length s) ≡ false → Going s (length s / line_length short) v v kinds 0 0
 unfolding steps_in put_steps
-going_start f s v kinds m e z g h =
-    let d : length s / line_length f - 0 ≡ length s / line_length f = omega arith in
+going_start s v kinds e z f h =
+    let l = whole_lines short (length s) h in
+    let r : length s % line_length short ≡ 0 = l.1 in
+    let m : length s ≤ longest short = l.2 in
+    let d : length s / line_length short - 0 ≡ length s / line_length short = omega arith in
     record {
       within = omega arith;
-      room = omega (arith, (lines_counted f (length s) h).1);
-      whole = div-mul-le_self (length s) (line_length f);
-      start = omega arith;
-      wide = e h;
+      room = omega arith;
+      whole = omega arith;
+      wide = e;
       long = refl;
       put = refl;
       few = omega arith;
-      known = known_none kinds z g;
-      same = rw d (good_text f s h);
+      known = known_none kinds z f;
+      same = rw d (good_text short s h);
     }
 
 -- what `read` ensures of the text s, where it answers r and the words w were v before
-abbrev Answers : Form → List ℕ → Reading → List ℕ → List ℕ → Type 0
-Answers f s r v w = (length w ≡ length v) × Says (read_text f s) r w × Leaves (read_text f s) v w
+abbrev Answers : List ℕ → Reading → List ℕ → List ℕ → Type 0
+Answers s r v w = (length w ≡ length v) × Says (read_text short s) r w × Leaves (read_text short s) v w
 
-pub says_bad : (f : Form) (s v : List ℕ) (r : Reading) → bad_length f (length s) ≡ true → Refused 10 0 r → Answers f s r v v
-says_bad f s v r h e = rw (bad_text f s h) (refl, e, refl)
+pub says_bad : (s v : List ℕ) (r : Reading) → bad_length short (length s) ≡ true → Refused 10 0 r → Answers s r v v
+says_bad s v r h e = rw (bad_text short s h) (refl, e, refl)
 
-module _ (f : Form) (s : List ℕ) (n : ℕ) (v w kinds : List ℕ) (inputs at i : ℕ) (g : Going f s n v w kinds inputs at i) where
-  -- the next line lies in the text
-  pub next_fits : i < n → at + line_length f ≤ length s
-  next_fits h =
-      let m : (i + 1) * line_length f ≤ n * line_length f = mul-le-mul_right (line_length f) (omega arith) in
-      let d : (i + 1) * line_length f ≡ i * line_length f + line_length f = omega arith in
-      omega (arith, g.start, g.whole)
-
-  -- and is line i
-  pub next_is : (x : Line) → line_at f.operand s at ≡ x → line_at f.operand s (i * line_length f) ≡ x
-  next_is x e = rw (← g.start) e
-
+module _ (s : List ℕ) (n : ℕ) (v w kinds : List ℕ) (inputs i : ℕ) (g : Going s n v w kinds inputs i) where
   -- one step more, put into the words
-  pub going_more : i < n → (t : Step) → line_at f.operand s (i * line_length f) ≡ good t → step_refusal (steps_in w i) t ≡ 0
+  pub going_more : i < n → (t : Step) → line_at short s (i * line_length short) ≡ good t → step_refusal (steps_in w i) t ≡ 0
       → (u : List ℕ) → u ≡ put_at w i t → steps_in u (i + 1) ≡ steps_in w i ++ (t ∷ [])
-      → (c : ℕ) → c ≡ cond (is_input (row_of t.opcode)) 1 0 → c ≤ 1 → (x : ℕ) → x ≡ kind_number (kind_of t) → Going f s n v u (set kinds i x) (inputs + c) (at + line_length f) (i + 1)
+      → (c : ℕ) → c ≡ cond (is_input (row_of t.opcode)) 1 0 → c ≤ 1 → (x : ℕ) → x ≡ kind_number (kind_of t) → Going s n v u (set kinds i x) (inputs + c) (i + 1)
   going_more h t e z u eu more c ec lc x ex =
       let fits : 3 * i + 2 < length w = omega (arith, g.room, g.wide, g.long) in
       record {
         within = omega arith;
         room = g.room;
         whole = g.whole;
-        start = rw g.start (omega arith);
         wide = g.wide;
         long = ap length eu ∙ put_length w i t fits ∙ g.long;
         put = eu ∙ ap (λ (y : List ℕ). put_at y i t) g.put ∙ sym (rw more (put_steps_more v (steps_in w i) t i (steps_length w i)));
         few = omega (arith, g.few);
         known = rw more (known_more (steps_in w i) i inputs kinds g.known t (omega (arith, g.room)) c x ec ex);
-        same = g.same ∙ read_good f s n i (steps_in w i) t h e z ∙ rw more;
+        same = g.same ∙ read_good short s n i (steps_in w i) t h e z ∙ rw more;
       }
 
   -- the words from step i on are as they were lent
   rest : drop (3 * i) w ≡ drop (3 * i) v
   rest = ap (drop (3 * i)) g.put ∙ put_steps_rest v (steps_in w i) i (3 * i) (omega arith)
 
-  pub says_malformed : i < n → line_at f.operand s (i * line_length f) ≡ malformed → (r : Reading) → Refused 11 i r → Answers f s r v w
-  says_malformed h e r d = rw (g.same ∙ read_malformed f s n i (steps_in w i) h e) (g.long, d, rest)
+  pub says_malformed : i < n → line_at short s (i * line_length short) ≡ malformed → (r : Reading) → Refused 11 i r → Answers s r v w
+  says_malformed h e r d = rw (g.same ∙ read_malformed short s n i (steps_in w i) h e) (g.long, d, rest)
 
-  pub says_refused : i < n → (t : Step) → line_at f.operand s (i * line_length f) ≡ good t → (q : ℕ) → q ≡ step_refusal (steps_in w i) t → (q ≡ 0 → ⊥)
-      → (r : Reading) → Refused q i r → Answers f s r v w
-  says_refused h t e q eq z r d = rw (g.same ∙ read_refused f s n i (steps_in w i) t h e (λ x. z (eq ∙ x)), ← eq) (g.long, d, rest)
+  pub says_refused : i < n → (t : Step) → line_at short s (i * line_length short) ≡ good t → (q : ℕ) → q ≡ step_refusal (steps_in w i) t → (q ≡ 0 → ⊥)
+      → (r : Reading) → Refused q i r → Answers s r v w
+  says_refused h t e q eq z r d = rw (g.same ∙ read_refused short s n i (steps_in w i) t h e (λ x. z (eq ∙ x)), ← eq) (g.long, d, rest)
 
-  pub says_done : n ≤ i → Answers f s (record { count = n; refusal = 0; place = record { 0 = 0 } }) v w
+  pub says_done : n ≤ i → Answers s (record { count = n; refusal = 0; place = record { 0 = 0 } }) v w
   says_done h =
       let e : i ≡ n = omega (arith, g.within) in
       let l : length (steps_in w i) ≡ i = steps_length w i in
-      rw (g.same ∙ read_done f s n i (steps_in w i) h) (
+      rw (g.same ∙ read_done short s n i (steps_in w i) h) (
         g.long,
         record { not_refused = refl; no_place = refl; counted = rw e (sym (steps_length w n)); kept = rw e },
         g.put ∙ sym (ap (put_steps v (steps_in w i)) l),

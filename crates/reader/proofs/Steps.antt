@@ -43,12 +43,12 @@ unfolding next_of
 next_malformed l x e = rw e
 
 module _ (f : Form) (s : List ℕ) where
-  added_suc : (m k : ℕ) (l : List Step) (t : Step) → next_of l (line_at f.operand s (k * line_length f)) ≡ added t
+  added_suc : (m k : ℕ) (l : List Step) (t : Step) → next_of l (line_at f s (k * line_length f)) ≡ added t
       → read_from f s (suc m) k l ≡ read_from f s m (suc k) (l ++ (t ∷ []))
   unfolding read_from on_next
   added_suc m k l t e = ap (λ x. on_next x k (λ t. read_from f s m (suc k) (l ++ (t ∷ [])))) e
 
-  stopped_suc : (m k : ℕ) (l : List Step) (r : ℕ) → next_of l (line_at f.operand s (k * line_length f)) ≡ stopped r → read_from f s (suc m) k l ≡ refused r k
+  stopped_suc : (m k : ℕ) (l : List Step) (r : ℕ) → next_of l (line_at f s (k * line_length f)) ≡ stopped r → read_from f s (suc m) k l ≡ refused r k
   unfolding read_from on_next
   stopped_suc m k l r e = ap (λ x. on_next x k (λ t. read_from f s m (suc k) (l ++ (t ∷ [])))) e
 
@@ -61,22 +61,22 @@ module _ (f : Form) (s : List ℕ) where
   good_text e = rw e
 
   module _ (n i : ℕ) (l : List Step) where
-    pub read_good : (t : Step) → i < n → line_at f.operand s (i * line_length f) ≡ good t → step_refusal l t ≡ 0
+    pub read_good : (t : Step) → i < n → line_at f s (i * line_length f) ≡ good t → step_refusal l t ≡ 0
         → read_from f s (n - i) i l ≡ read_from f s (n - (i + 1)) (i + 1) (l ++ (t ∷ []))
     read_good t h e z =
         let m : n - i ≡ suc (n - (i + 1)) = omega arith in
-        rw (m, add-one) (added_suc (n - suc i) i l t (next_good l (line_at f.operand s (i * line_length f)) t e ∙ judged_zero l t (step_refusal l t) z))
+        rw (m, add-one) (added_suc (n - suc i) i l t (next_good l (line_at f s (i * line_length f)) t e ∙ judged_zero l t (step_refusal l t) z))
 
-    pub read_refused : (t : Step) → i < n → line_at f.operand s (i * line_length f) ≡ good t → (step_refusal l t ≡ 0 → ⊥)
+    pub read_refused : (t : Step) → i < n → line_at f s (i * line_length f) ≡ good t → (step_refusal l t ≡ 0 → ⊥)
         → read_from f s (n - i) i l ≡ refused (step_refusal l t) i
     read_refused t h e z =
         let m : n - i ≡ suc (n - (i + 1)) = omega arith in
-        rw m (stopped_suc (n - (i + 1)) i l (step_refusal l t) (next_good l (line_at f.operand s (i * line_length f)) t e ∙ judged_more l t (step_refusal l t) z))
+        rw m (stopped_suc (n - (i + 1)) i l (step_refusal l t) (next_good l (line_at f s (i * line_length f)) t e ∙ judged_more l t (step_refusal l t) z))
 
-    pub read_malformed : i < n → line_at f.operand s (i * line_length f) ≡ malformed → read_from f s (n - i) i l ≡ refused 11 i
+    pub read_malformed : i < n → line_at f s (i * line_length f) ≡ malformed → read_from f s (n - i) i l ≡ refused 11 i
     read_malformed h e =
         let m : n - i ≡ suc (n - (i + 1)) = omega arith in
-        rw m (stopped_suc (n - (i + 1)) i l 11 (next_malformed l (line_at f.operand s (i * line_length f)) e))
+        rw m (stopped_suc (n - (i + 1)) i l 11 (next_malformed l (line_at f s (i * line_length f)) e))
 
     pub read_done : n ≤ i → read_from f s (n - i) i l ≡ steps l
     read_done h = let m : n - i ≡ 0 = omega arith in rw m (done_zero i l)

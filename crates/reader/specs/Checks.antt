@@ -6,12 +6,8 @@ use Rattle.recipe.specs.declared.Row.{Row}
 use Rattle.recipe.specs.declared.Row.TheVariants.{Unknown, Input, Constant, Unary, Binary}
 use Rattle.recipe.specs.declared.Step.{Step}
 use Rattle.recipe.specs.Table.{is_input, same_kind, kind_number}
-use Rattle.recipe.specs.Text.{Form, most_steps, Line, good, malformed, kind_at, inputs_in, is_unknown, unused_set, operand_ahead, bad_range}
+use Rattle.recipe.specs.Text.{most_steps, Line, good, malformed, kind_at, inputs_in, is_unknown, unused_set, operand_ahead, bad_range}
 use Rattle.reader.specs.declared.lines.Line as code
-
--- the form in which so many digits name an operand, and so many lines are the most
-abbrev pub form_by : ℕ → ℕ → Form
-form_by operand most = record { operand = operand; most = most }
 
 -- a line, as the code's own type
 abbrev pub told : Line → code.Line

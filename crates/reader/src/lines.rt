@@ -1,7 +1,6 @@
 // One line of a recipe's text: five fields of digits and a line feed.
-ghost use Rattle.std.specs.Prelude.{◌≡◌, ◌+◌, ◌*◌, ◌≤◌, length};
-ghost use Rattle.hexadecimal.specs.Hex.{word_field};
-ghost use Rattle.recipe.specs.Text.{line_at};
+ghost use Rattle.std.specs.Prelude.{◌≡◌, ◌≤◌, length};
+ghost use Rattle.recipe.specs.Text.{short, line_length, line_at};
 ghost use Rattle.reader.specs.Checks.{told};
 
 use hexadecimal::Field;
@@ -14,47 +13,32 @@ pub enum Line {
     Malformed,
 }
 
-// As `hexadecimal::read`, of an operand's digits. The 2 digits of the short form are asked about first, so that the compiler takes them at once: it does so
-// for a number of digits that it knows.
-fn operand_of(s: &[u8]) -> Field
-    ensures { result ≡ word_field s.now }
+// The line of the bytes s.
+pub(crate) fn line_of(s: &[u8]) -> Line
+    requires { line_length short ≤ length s.now }
+    ensures { result ≡ told (line_at short s.now 0) }
 {
-    if s.len() == 2 {
-        return hexadecimal::read(&s[..2]);
-    }
-    hexadecimal::read(s)
-}
-
-// The line of the bytes s, in which so many digits name an operand.
-pub(crate) fn line_of(s: &[u8], operand: usize) -> Line
-    requires { (operand ≤ 4) × (35 + 2 * operand ≤ length s.now) }
-    ensures { result ≡ told (line_at operand s.now 0) }
-{
-    let second = 2 + operand;
-    let low = second + operand;
-    let high = low + 16;
-    let end = high + 16;
     let opcode = match hexadecimal::read(&s[0..2]) {
         Field::Value(v) => v,
         Field::Malformed => return Line::Malformed,
     };
-    let a = match operand_of(&s[2..second]) {
+    let a = match hexadecimal::read(&s[2..4]) {
         Field::Value(v) => v,
         Field::Malformed => return Line::Malformed,
     };
-    let b = match operand_of(&s[second..low]) {
+    let b = match hexadecimal::read(&s[4..6]) {
         Field::Value(v) => v,
         Field::Malformed => return Line::Malformed,
     };
-    let p = match hexadecimal::read(&s[low..high]) {
+    let p = match hexadecimal::read(&s[6..22]) {
         Field::Value(v) => v,
         Field::Malformed => return Line::Malformed,
     };
-    let q = match hexadecimal::read(&s[high..end]) {
+    let q = match hexadecimal::read(&s[22..38]) {
         Field::Value(v) => v,
         Field::Malformed => return Line::Malformed,
     };
-    if s[end] != b'\n' {
+    if s[38] != b'\n' {
         return Line::Malformed;
     }
     Line::Good(Step {

@@ -3,26 +3,24 @@
 use mathlib.Core.Path.{◌≡◌, refl}
 use mathlib.Core.Bool.{Bool, true, false, not, ◌&&◌, ◌||◌}
 use mathlib.Core.List.{List}
-use Prim.Native.Nat.{ℕ, ◌+◌, ◌*◌, ◌%◌, ◌<◌}
+use Prim.Native.Nat.{ℕ, ◌+◌, ◌*◌, ◌<◌}
 use native.Mathlib.Omega.{arith}
-use lib.Dec.{eqb, leb, ltb}
-use lib.ListN.{length, get_or, take, drop}
-use lib.Seq.{get_or-take, get_or-drop}
+use lib.Dec.{eqb, leb}
+use lib.ListN.{length, get_or}
 use lib.Signed.{le_z}
 use mir.Syntax.{w64}
 use mir.Val.{to_z}
-use borrow.Author.Tests.{eqb-true, ltb-false, le-ltb, lt-ltb}
+use borrow.Author.Tests.{eqb-true, ltb-false, le-ltb}
 use Rattle.float_format.specs.Format.{binary64, is_nan}
 use Rattle.float_format.specs.Number.{AtMost}
 use Rattle.hexadecimal.specs.Hex.{field_of}
 use Rattle.hexadecimal.specs.declared.Field.{Field}
 use Rattle.hexadecimal.specs.declared.Field.TheVariants.{Value, Malformed as Bad}
-use Rattle.hexadecimal.proofs.Laws.{field_part}
 use Rattle.recipe.specs.declared.Kind.TheVariants.{Double, Whole}
 use Rattle.recipe.specs.declared.Row.TheVariants.{Input}
 use Rattle.recipe.specs.declared.Step.{Step}
 use Rattle.recipe.specs.Table.{row_of, is_input}
-use Rattle.recipe.specs.Text.{Form, line_length, longest, good, refused, is_unknown, unused_set, operand_ahead, wrong_kind, bad_range, inputs_in, from_fields, line_at, step_refusal, bad_length, read_text}
+use Rattle.recipe.specs.Text.{Form, good, refused, is_unknown, unused_set, operand_ahead, wrong_kind, bad_range, inputs_in, from_fields, line_at, step_refusal, bad_length, read_text}
 use Rattle.recipe.proofs.Counts.{never, or_false}
 
 -- ---- refusal 10
@@ -31,16 +29,6 @@ use Rattle.recipe.proofs.Counts.{never, or_false}
 pub bad_text : (f : Form) (s : List ℕ) → bad_length f (length s) ≡ true → read_text f s ≡ refused 10 0
 unfolding read_text
 bad_text f s e = rw e
-
-late : (x y z : Bool) → z ≡ true → (x || y || z) ≡ true
-late true y z e = refl
-late false true z e = refl
-late false false z e = e
-
--- So is a text that is longer than the longest.
-pub long_text_lem : (f : Form) (s : List ℕ) → longest f < length s → read_text f s ≡ refused 10 0
-long_text_lem f s h =
-    bad_text f s (late (eqb (length s) 0) (not (eqb (length s % line_length f) 0)) (ltb (longest f) (length s)) (lt-ltb (longest f) (length s) h))
 
 -- ---- refusal 11
 
@@ -55,9 +43,10 @@ ended (Value o) Bad b p q feed t e = never (cc)
 ended Bad a b p q feed t e = never (cc)
 
 -- A line that is read ends with a line feed.
-pub line_ends : (o : ℕ) (s : List ℕ) (at : ℕ) (t : Step) → line_at o s at ≡ good t → get_or s (at + 34 + 2 * o) 0 ≡ 10
+pub line_ends : (f : Form) (s : List ℕ) (at : ℕ) (t : Step) → line_at f s at ≡ good t → get_or s (at + 34 + 2 * f.operand) 0 ≡ 10
 unfolding line_at
-line_ends o s at t e =
+line_ends f s at t e =
+    let o = f.operand in
     let b = get_or s (at + 34 + 2 * o) 0 in
     eqb-true b 10
     (ended
@@ -69,31 +58,6 @@ line_ends o s at t e =
     (eqb b 10)
     t
     e)
-
--- A line is read from its own bytes as it is from the whole text.
-pub line_own : (o : ℕ) (s : List ℕ) (at : ℕ) → line_at o (take (35 + 2 * o) (drop at s)) 0 ≡ line_at o s at
-unfolding line_at
-line_own o s at =
-    let m = 35 + 2 * o in
-    let x : at + 0 ≡ at = omega arith in
-    let b : at + (2 + o) ≡ at + 2 + o = omega arith in
-    let p : at + (2 + 2 * o) ≡ at + 2 + 2 * o = omega arith in
-    let q : at + (18 + 2 * o) ≡ at + 18 + 2 * o = omega arith in
-    let e : at + (34 + 2 * o) ≡ at + 34 + 2 * o = omega arith in
-    rw (
-      field_part s at m 2 0 0 (omega arith),
-      field_part s at m o 2 0 (omega arith),
-      field_part s at m o (2 + o) 0 (omega arith),
-      field_part s at m 16 (2 + 2 * o) 0 (omega arith),
-      field_part s at m 16 (18 + 2 * o) 0 (omega arith),
-      get_or-take m (drop at s) (34 + 2 * o) 0 (omega arith),
-      get_or-drop at s (34 + 2 * o) 0,
-      x,
-      b,
-      p,
-      q,
-      e,
-    )
 
 -- ---- refusal 16
 

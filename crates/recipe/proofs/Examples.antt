@@ -1,5 +1,5 @@
--- Document 01's own recipe and a text for each refusal, read by the definition: one claim about the whole list, which antt computes. Then texts
--- in either form, of which the first line feed tells. Assumes nothing.
+-- Document 01's own recipe and a text for each refusal, read by the definition: one claim about the whole list, which antt computes.
+-- Assumes nothing.
 use mathlib.Core.Path.{◌≡◌, refl}
 use mathlib.Core.List.{List, [], ◌∷◌, ◌++◌, map}
 use Prim.Native.Nat.{ℕ}
@@ -10,8 +10,7 @@ use Rattle.float_format.specs.Format.{is_nan}
 use Rattle.float_format.specs.Number.{above, under, magnitude}
 use Rattle.hexadecimal.specs.Hex.{field_of, digit_of}
 use Rattle.recipe.specs.Table.{row_of}
-use Rattle.recipe.specs.Text.{Text, short, step, steps, refused, read_text, read_from, on_next, next_of, judged, step_refusal, inputs_in, line_at, from_fields, feed_before, read_any}
-use Rattle.recipe.specs.Rewriting.{widened, rewritten, long_text}
+use Rattle.recipe.specs.Text.{Text, short, step, steps, refused, read_text, read_from, on_next, next_of, judged, step_refusal, inputs_in, line_at, from_fields}
 
 -- ---- texts
 
@@ -76,37 +75,3 @@ examples =
 pub read_examples : map (λ (c : Case). read_text short c.text) examples ≡ map (λ (c : Case). c.stated) examples
 unfolding examples lines bytes read_text read_from on_next next_of judged step_refusal inputs_in line_at from_fields row_of field_of digit_of is_nan above under magnitude
 read_examples = refl
-
--- ---- texts in either form (document 02, W-206)
-
-pub any_examples : List Case
-any_examples =
-    -- document 01's recipe in both forms
-    (lines ("010000c004000000000000401d000000000000" ∷ "10000000000000000000000000000000000000" ∷ "18010000000000000000000000000000000000" ∷ []) gives steps (step 0x01 0 0 0xc004_0000_0000_0000 0x401d_0000_0000_0000 ∷ step 0x10 0 0 0 0 ∷ step 0x18 1 0 0 0 ∷ []))
-    ∷ (lines ("0100000000c004000000000000401d000000000000" ∷ "100000000000000000000000000000000000000000" ∷ "180001000000000000000000000000000000000000" ∷ []) gives steps (step 0x01 0 0 0xc004_0000_0000_0000 0x401d_0000_0000_0000 ∷ step 0x10 0 0 0 0 ∷ step 0x18 1 0 0 0 ∷ []))
-    -- 14: floor of step ffff
-    ∷ (lines ("0100000000c004000000000000401d000000000000" ∷ "10ffff000000000000000000000000000000000000" ∷ []) gives refused 14 1)
-    -- 11: a letter past `f` among A's first digits; a space for the second line feed
-    ∷ (lines ("0100000000c004000000000000401d000000000000" ∷ "10g000000000000000000000000000000000000000" ∷ []) gives refused 11 1)
-    ∷ (lines ("0100000000c004000000000000401d000000000000" ∷ []) ++ bytes "100000000000000000000000000000000000000000 " gives refused 11 1)
-    -- 10: a line of the other form after the first one, which tells the form
-    ∷ (lines ("0100000000c004000000000000401d000000000000" ∷ "10000000000000000000000000000000000000" ∷ []) gives refused 10 0)
-    ∷ (lines ("010000c004000000000000401d000000000000" ∷ "100000000000000000000000000000000000000000" ∷ []) gives refused 10 0)
-    -- 10: no byte; no line feed, in 39 bytes and in 43; a first line feed at byte 40
-    ∷ (lines [] gives refused 10 0)
-    ∷ (bytes "010000c004000000000000401d000000000000 " gives refused 10 0)
-    ∷ (bytes "0100000000c004000000000000401d000000000000 " gives refused 10 0)
-    ∷ (lines ("010000c004000000000000401d00000000000000" ∷ []) gives refused 10 0)
-    -- 10: 39 bytes with a line feed at byte 38 that is not the first, which is at byte 0
-    ∷ (lines ("" ∷ "10000c004000000000000401d000000000000" ∷ []) gives refused 10 0)
-    ∷ []
-
-pub read_any_examples : map (λ (c : Case). read_any c.text) any_examples ≡ map (λ (c : Case). c.stated) any_examples
-unfolding any_examples lines bytes read_any feed_before read_text read_from on_next next_of judged step_refusal inputs_in line_at from_fields row_of field_of digit_of is_nan above under magnitude
-read_any_examples = refl
-
--- The first of them rewritten in the long form is the second.
-pub rewriting_example : long_text (lines ("010000c004000000000000401d000000000000" ∷ "10000000000000000000000000000000000000" ∷ "18010000000000000000000000000000000000" ∷ []))
-    ≡ lines ("0100000000c004000000000000401d000000000000" ∷ "100000000000000000000000000000000000000000" ∷ "180001000000000000000000000000000000000000" ∷ [])
-unfolding lines bytes rewritten widened
-rewriting_example = refl

@@ -113,19 +113,19 @@ module _ (f : Form) (s : List ℕ) where
     rest t = read_from f s m (suc k) (l ++ (t ∷ []))
 
     next_passing : (r : List Step) → Passing l → ((t : Step) → Passing (l ++ (t ∷ [])) → rest t ≡ steps r → Passing r × (length r ≡ length (l ++ (t ∷ [])) + m))
-        → (x : Next) → next_of l (line_at f.operand s (k * line_length f)) ≡ x → on_next x k rest ≡ steps r → Passing r × (length r ≡ length l + suc m)
+        → (x : Next) → next_of l (line_at f s (k * line_length f)) ≡ x → on_next x k rest ≡ steps r → Passing r × (length r ≡ length l + suc m)
     unfolding on_next
     next_passing r p go (added t) h e =
-        let i = go t (passing_more l t p (next_added l (line_at f.operand s (k * line_length f)) t h)) e in
+        let i = go t (passing_more l t p (next_added l (line_at f s (k * line_length f)) t h)) e in
         (i.0, omega (arith, simp length-append at i.1))
     next_passing r p go (stopped n) h e = never (cc)
 
     next_refused : (n p : ℕ) → ((t : Step) → rest t ≡ refused n p → (11 ≤ n) × (n ≤ 17) × (p < suc k + m))
-        → (x : Next) → next_of l (line_at f.operand s (k * line_length f)) ≡ x → on_next x k rest ≡ refused n p → (11 ≤ n) × (n ≤ 17) × (p < k + suc m)
+        → (x : Next) → next_of l (line_at f s (k * line_length f)) ≡ x → on_next x k rest ≡ refused n p → (11 ≤ n) × (n ≤ 17) × (p < k + suc m)
     unfolding on_next
     next_refused n p go (added t) h e = let i = go t e in (i.0, i.1, omega (arith, i.2))
     next_refused n p go (stopped r) h e =
-        let i = next_stopped l (line_at f.operand s (k * line_length f)) r h in
+        let i = next_stopped l (line_at f s (k * line_length f)) r h in
         let q : r ≡ n = cc in
         let w : k ≡ p = cc in
         (omega (arith, i.0), omega (arith, i.1), omega arith)
@@ -135,13 +135,13 @@ module _ (f : Form) (s : List ℕ) where
   unfolding read_from
   lines_passing zero k l r p e = let q : l ≡ r = cc in rw (← q) (p, omega arith)
   lines_passing (suc m) k l r p e =
-      next_passing m k l r p (λ t q d. lines_passing m (suc k) (l ++ (t ∷ [])) r q d) (next_of l (line_at f.operand s (k * line_length f))) refl e
+      next_passing m k l r p (λ t q d. lines_passing m (suc k) (l ++ (t ∷ [])) r q d) (next_of l (line_at f s (k * line_length f))) refl e
 
   lines_refused : (m k : ℕ) (l : List Step) (n p : ℕ) → read_from f s m k l ≡ refused n p → (11 ≤ n) × (n ≤ 17) × (p < k + m)
   unfolding read_from
   lines_refused zero k l n p e = never (cc)
   lines_refused (suc m) k l n p e =
-      next_refused m k l n p (λ t d. lines_refused m (suc k) (l ++ (t ∷ [])) n p d) (next_of l (line_at f.operand s (k * line_length f))) refl e
+      next_refused m k l n p (λ t d. lines_refused m (suc k) (l ++ (t ∷ [])) n p d) (next_of l (line_at f s (k * line_length f))) refl e
 
 -- ---- the text
 
@@ -150,7 +150,7 @@ at_least_one zero L n r e z h = absurd (h (omega arith))
 at_least_one (suc q) L n r e z h = omega arith
 
 -- how many lines a text of a good length has
-pub lines_counted : (f : Form) (n : ℕ) → bad_length f n ≡ false → (1 ≤ n / line_length f) × (n / line_length f ≤ f.most)
+lines_counted : (f : Form) (n : ℕ) → bad_length f n ≡ false → (1 ≤ n / line_length f) × (n / line_length f ≤ f.most)
 lines_counted f n e =
     let L = line_length f in
     let w = whole_lines f n e in
@@ -165,24 +165,12 @@ module _ (f : Form) (s : List ℕ) where
       let c = lines_counted f (length s) h in
       record { some = omega (arith, p.1, c.0); few = omega (arith, p.1, c.1); passed = p.0 }
 
-  -- the steps of a text are as many as its lines
-  pub counted_by : (l : List Step) (b : Bool) → bad_length f (length s) ≡ b → cond b (refused 10 0) (read_from f s (length s / line_length f) 0 []) ≡ steps l
-      → length l * line_length f ≡ length s
-  counted_by l true h e = never (cc)
-  counted_by l false h e =
-      let p = lines_passing f s (length s / line_length f) 0 [] l (λ k m. absurd (omega arith)) e in
-      let w = whole_lines f (length s) h in
-      let d = div-add-mod' (length s) (line_length f) in
-      let c : length l ≡ length s / line_length f = omega (arith, p.1) in
-      rw c (omega (arith, d, w.1))
-
   pub refused_by : (n p : ℕ) (b : Bool) → bad_length f (length s) ≡ b → cond b (refused 10 0) (read_from f s (length s / line_length f) 0 []) ≡ refused n p
-      → ((n ≡ 10) × (p ≡ 0)) ⊎ ((11 ≤ n) × (n ≤ 17) × (p < length s / line_length f) × (p < f.most))
+      → ((n ≡ 10) × (p ≡ 0)) ⊎ ((11 ≤ n) × (n ≤ 17) × (p < length s / line_length f))
   refused_by n p true h e = let q : n ≡ 10 = cc in let w : p ≡ 0 = cc in inl (q, w)
   refused_by n p false h e =
       let i = lines_refused f s (length s / line_length f) 0 [] n p e in
-      let c = (lines_counted f (length s) h).1 in
-      inr (i.0, i.1, omega (arith, i.2), omega (arith, i.2))
+      inr (i.0, i.1, omega (arith, i.2))
 
 one_more : (n : ℕ) (b : Bool) → n ≤ 16 → (b && leb 16 n) ≡ false → n + cond b 1 0 ≤ 16
 one_more n true h e = omega (arith, leb-false 16 n e)

@@ -1,21 +1,17 @@
 -- What a user of the reader would state, over every form of text, and what the answer's fields tell. Assumes nothing.
 use mathlib.Core.Path.{◌≡◌, refl}
-use mathlib.Core.Bool.{Bool, true, false, cond}
 use mathlib.Core.List.{List}
-use mathlib.Core.Logic.{◌⊎◌, inl, inr, ⊎_elim}
+use mathlib.Core.Logic.{◌⊎◌, ⊎_elim}
 use Prim.Native.Nat.{ℕ, ◌*◌, ◌/◌, ◌≤◌, ◌<◌}
 use native.Mathlib.Omega.{arith}
-use lib.Dec.{leb}
 use lib.ListN.{length, take, drop}
 use lib.Seq.{take-length}
-use borrow.Author.Tests.{leb-true}
 use Rattle.recipe.specs.declared.Step.{Step}
 use Rattle.recipe.specs.declared.Reading.{Reading}
-use Rattle.recipe.specs.Text.{Form, line_length, longest, steps_for, most_steps, short, long, Text, steps, refused, inputs_in, step_refusal, bad_length, read_text, is_short, is_long, read_any}
+use Rattle.recipe.specs.Text.{Form, line_length, most_steps, short, steps, refused, inputs_in, step_refusal, bad_length, read_text}
 use Rattle.recipe.specs.Packed.{steps_in}
 use Rattle.recipe.specs.Answer.{Says, Leaves, Formed, Holds, Checked}
-use Rattle.recipe.proofs.Counts.{never}
-use Rattle.recipe.proofs.Formed.{checked, numbered, formed_by, counted_by, refused_by, inputs_so_far, says_which}
+use Rattle.recipe.proofs.Formed.{checked, numbered, formed_by, refused_by, inputs_so_far, says_which}
 use Rattle.recipe.proofs.Packed.{steps_length, holds_first, put_steps_length, put_steps_rest}
 
 -- ---- one step
@@ -36,13 +32,8 @@ module _ (f : Form) (s : List ℕ) where
   unfolding read_text
   read_formed l e = formed_by f s l (bad_length f (length s)) refl e
 
-  -- A step for each of its lines, and no byte besides.
-  pub read_counted : (l : List Step) → read_text f s ≡ steps l → length l * line_length f ≡ length s
-  unfolding read_text
-  read_counted l e = counted_by f s l (bad_length f (length s)) refl e
-
-  -- A refusal is number 10 at place 0, or one of 11 to 17 at the place of a line of the text, of which there are at most f's most.
-  pub read_refused : (n p : ℕ) → read_text f s ≡ refused n p → ((n ≡ 10) × (p ≡ 0)) ⊎ ((11 ≤ n) × (n ≤ 17) × (p < length s / line_length f) × (p < f.most))
+  -- A refusal is number 10 at place 0, or one of 11 to 17 at the place of a line of the text.
+  pub read_refused : (n p : ℕ) → read_text f s ≡ refused n p → ((n ≡ 10) × (p ≡ 0)) ⊎ ((11 ≤ n) × (n ≤ 17) × (p < length s / line_length f))
   unfolding read_text
   read_refused n p e = refused_by f s n p (bad_length f (length s)) refl e
 
@@ -50,66 +41,20 @@ module _ (f : Form) (s : List ℕ) where
 pub formed_inputs : (most : ℕ) (l : List Step) → Formed most l → inputs_in l ≤ 16
 formed_inputs most l g = rw take-length at (inputs_so_far most l g (length l) (omega arith))
 
--- ---- a text in either form
-
--- What holds of a text read in each form, and of refusal 10, holds of what is read.
-pub by_form : (P : Text → Type 0) (s : List ℕ) → P (read_text short s) → P (read_text long s) → P (refused 10 0) → P (read_any s)
-unfolding read_any
-by_form P s a b c = cases (is_short s) (is_long s)
-  where
-    cases : (x y : Bool) → P (cond x (read_text short s) (cond y (read_text long s) (refused 10 0)))
-    cases true y = a
-    cases false true = b
-    cases false false = c
-
-module _ (s : List ℕ) where
-  -- The steps of a text that is read in either form are formed ..
-  pub any_formed : (l : List Step) → read_any s ≡ steps l → Formed most_steps l
-  any_formed l =
-      by_form (λ x. x ≡ steps l → Formed most_steps l) s
-      (λ e. let g = read_formed short s l e in record { some = g.some; few = omega (arith, g.few); passed = g.passed })
-      (λ e. read_formed long s l e)
-      (λ e. never (cc))
-
-  -- .. and no more than a text of so many bytes may have.
-  pub any_few : (l : List Step) → read_any s ≡ steps l → length l ≤ steps_for (length s)
-  any_few l =
-      by_form (λ x. x ≡ steps l → length l ≤ steps_for (length s)) s
-      (λ e. either (leb (length s) (longest short)) (read_formed short s l e).few)
-      (λ e. by_size (read_counted long s l e) (read_formed long s l e).few (leb (length s) (longest short)) refl)
-      (λ e. never (cc))
-    where
-      either : (b : Bool) → length l ≤ short.most → length l ≤ cond b short.most long.most
-      either true h = h
-      either false h = omega arith
-
-      by_size : length l * line_length long ≡ length s → length l ≤ long.most → (b : Bool) → leb (length s) (longest short) ≡ b
-          → length l ≤ cond b short.most long.most
-      by_size c h true e = let m = leb-true (length s) (longest short) e in omega arith
-      by_size c h false e = h
-
-  -- A refusal is number 10 at place 0, or one of 11 to 17 at the place of one of the most steps.
-  pub any_refused : (n p : ℕ) → read_any s ≡ refused n p → ((n ≡ 10) × (p ≡ 0)) ⊎ ((11 ≤ n) × (n ≤ 17) × (p < most_steps))
-  any_refused n p =
-      by_form (λ x. x ≡ refused n p → ((n ≡ 10) × (p ≡ 0)) ⊎ ((11 ≤ n) × (n ≤ 17) × (p < most_steps))) s
-      (λ e. ⊎_elim (λ w. inl w) (λ w. inr (w.0, w.1, omega (arith, w.3))) (read_refused short s n p e))
-      (λ e. ⊎_elim (λ w. inl w) (λ w. inr (w.0, w.1, w.3)) (read_refused long s n p e))
-      (λ e. let i : n ≡ 10 = cc in let j : p ≡ 0 = cc in inl (i, j))
-
 -- ---- the answer
 
 -- No refusal has the number 0.
-pub refusal_positive : (s : List ℕ) (n p : ℕ) → read_any s ≡ refused n p → 0 < n
-refusal_positive s n p e = ⊎_elim (λ w. omega (arith, w.0)) (λ w. omega (arith, w.0)) (any_refused s n p e)
+pub refusal_positive : (f : Form) (s : List ℕ) (n p : ℕ) → read_text f s ≡ refused n p → 0 < n
+refusal_positive f s n p e = ⊎_elim (λ w. omega (arith, w.0)) (λ w. omega (arith, w.0)) (read_refused f s n p e)
 
-module _ (s : List ℕ) (r : Reading) (w : List ℕ) (g : Says (read_any s) r w) where
+module _ (s : List ℕ) (r : Reading) (w : List ℕ) (g : Says (read_text short s) r w) where
   -- An answer with refusal 0 has the text's steps ..
-  pub answer_steps : r.refusal ≡ 0 → read_any s ≡ steps (steps_in w r.count)
-  answer_steps e = (says_which (read_any s) r w (refusal_positive s) g).0 e
+  pub answer_steps : r.refusal ≡ 0 → read_text short s ≡ steps (steps_in w r.count)
+  answer_steps e = (says_which (read_text short s) r w (refusal_positive short s) g).0 e
 
   -- .. and they are formed, so that the words up to the last of them hold them.
   pub answer_formed : r.refusal ≡ 0 → Formed most_steps (steps_in w r.count)
-  answer_formed e = any_formed s (steps_in w r.count) (answer_steps e)
+  answer_formed e = read_formed short s (steps_in w r.count) (answer_steps e)
 
   pub answer_count : r.refusal ≡ 0 → (1 ≤ r.count) × (r.count ≤ most_steps)
   answer_count e = let f = answer_formed e in let n = steps_length w r.count in (omega (arith, f.some), omega (arith, f.few))
@@ -117,12 +62,9 @@ module _ (s : List ℕ) (r : Reading) (w : List ℕ) (g : Says (read_any s) r w)
   pub answer_holds : r.refusal ≡ 0 → 3 * r.count ≤ length w → Holds (steps_in w r.count) (take (3 * r.count) w)
   answer_holds e h = holds_first w r.count h (answer_formed e)
 
-  pub answer_room : r.refusal ≡ 0 → 3 * steps_for (length s) ≤ length w → 3 * r.count ≤ length w
-  answer_room e h = let n = steps_length w r.count in omega (arith, any_few s (steps_in w r.count) (answer_steps e))
-
   -- Any other answer has the text's refusal.
-  pub answer_refused : (r.refusal ≡ 0 → ⊥) → read_any s ≡ refused r.refusal r.place.0
-  answer_refused e = (says_which (read_any s) r w (refusal_positive s) g).1 e
+  pub answer_refused : (r.refusal ≡ 0 → ⊥) → read_text short s ≡ refused r.refusal r.place.0
+  answer_refused e = (says_which (read_text short s) r w (refusal_positive short s) g).1 e
 
 -- ---- the words
 

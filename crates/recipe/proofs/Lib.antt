@@ -5,6 +5,4 @@ pub mod Formed
 pub mod Packed
 pub mod Laws
 pub mod Checks
-pub mod Forms
-pub mod Rewriting
 pub mod Examples

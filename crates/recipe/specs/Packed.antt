@@ -32,6 +32,6 @@ steps_in w (suc n) = steps_in w n ++ (step_at w n ∷ [])
 abbrev pub steps_of : List ℕ → List Step
 steps_of w = steps_in w (length w / 3)
 
--- whether so many words are not those of 1 to 512 steps
+-- whether so many words are not those of 1 to 128 steps
 abbrev pub bad_words : ℕ → Bool
 bad_words n = eqb n 0 || not (eqb (n % 3) 0) || ltb (3 * most_steps) n

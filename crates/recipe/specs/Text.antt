@@ -1,5 +1,5 @@
 -- A recipe's text read to its steps, or turned down by the first fault: refusal 10, then line by line 11 to 17 (document 01, "Recipe
--- text" and "Turning text down"; document 02, W-206, for the long form). Definitions only; assumes nothing.
+-- text" and "Turning text down"). Definitions only; assumes nothing.
 use Rattle.std.specs.Prelude.{Bool, true, false, not, ◌&&◌, ◌||◌, cond, List, [], ◌∷◌, ◌++◌, ℕ, zero, suc, ◌+◌, ◌*◌, ◌/◌, ◌%◌, ltb, leb, eqb, length, get_or}
 use Rattle.std.specs.Int.Signed.{le_z}
 use Rattle.std.specs.Int.{w64}
@@ -24,29 +24,18 @@ pub record Form : Type 0 where
 
 -- the most steps that any form has
 abbrev pub most_steps : ℕ
-most_steps = 512
+most_steps = 128
 
 abbrev pub short : Form
-short = record { operand = 2; most = 128 }
+short = record { operand = 2; most = most_steps }
 
-abbrev pub long : Form
-long = record { operand = 4; most = most_steps }
-
--- opcode 2 digits, A, B, P 16, Q 16: the place of a line's line feed, 38 in the short form and 42 in the long
-abbrev pub feed_at : Form → ℕ
-feed_at f = 34 + 2 * f.operand
-
--- the bytes of a line: 39, 43
+-- opcode 2 digits, A, B, P 16, Q 16, a line feed: 39 bytes
 abbrev pub line_length : Form → ℕ
 line_length f = 35 + 2 * f.operand
 
--- the bytes of the longest text: 4,992, 22,016
+-- the bytes of the longest text: 4,992
 abbrev pub longest : Form → ℕ
 longest f = f.most * line_length f
-
--- a text of n bytes, in whichever form, has at most so many steps
-abbrev pub steps_for : ℕ → ℕ
-steps_for n = cond (leb n (longest short)) short.most long.most
 
 -- ---- a line's fields
 
@@ -65,9 +54,10 @@ from_fields (Value opcode) (Value a) Bad p q ended = malformed
 from_fields (Value opcode) Bad b p q ended = malformed
 from_fields Bad a b p q ended = malformed
 
--- the line of the text s that starts at a byte, where o digits name an operand; malformed is refusal 11
-unfoldable pub line_at : ℕ → List ℕ → ℕ → Line
-line_at o s at =
+-- the line of the text s that starts at a byte; malformed is refusal 11
+unfoldable pub line_at : Form → List ℕ → ℕ → Line
+line_at f s at =
+    let o = f.operand in
     from_fields
     (field_of s at 2 0)
     (field_of s (at + 2) o 0)
@@ -185,39 +175,11 @@ on_next (stopped number) k more = refused number k
 -- n more lines, from line k, after the steps l
 unfoldable pub read_from : Form → List ℕ → ℕ → ℕ → List Step → Text
 read_from f s zero k l = steps l
-read_from f s (suc n) k l = on_next (next_of l (line_at f.operand s (k * line_length f))) k (λ t. read_from f s n (suc k) (l ++ (t ∷ [])))
+read_from f s (suc n) k l = on_next (next_of l (line_at f s (k * line_length f))) k (λ t. read_from f s n (suc k) (l ++ (t ∷ [])))
 
--- refusal 10 in a form: no line, not whole lines, or too many
+-- refusal 10: no line, not whole lines, or too many
 abbrev pub bad_length : Form → ℕ → Bool
 bad_length f n = eqb n 0 || not (eqb (n % line_length f) 0) || ltb (longest f) n
 
 unfoldable pub read_text : Form → List ℕ → Text
 read_text f s = cond (bad_length f (length s)) (refused 10 0) (read_from f s (length s / line_length f) 0 [])
-
--- ---- which form: the first line feed tells (document 02, W-206)
-
--- whether one of the first n bytes of the text is a line feed
-unfoldable pub feed_before : List ℕ → ℕ → Bool
-feed_before s zero = false
-feed_before s (suc n) = feed_before s n || eqb (get_or s n 0) 10
-
--- whether the first line feed of the text is its byte n, counted from 0
-abbrev pub first_feed : List ℕ → ℕ → Bool
-first_feed s n = eqb (get_or s n 0) 10 && not (feed_before s n)
-
-abbrev pub is_short : List ℕ → Bool
-is_short s = first_feed s (feed_at short)
-
-abbrev pub is_long : List ℕ → Bool
-is_long s = first_feed s (feed_at long)
-
--- a text in the form that is told; refusal 10 where none is
-unfoldable pub read_any : List ℕ → Text
-read_any s = cond (is_short s) (read_text short s) (cond (is_long s) (read_text long s) (refused 10 0))
-
--- the digits of a step's number and of a place in whatever is written of a text: 4 of a long one, and 2 of a short one or where no form is told
-abbrev pub digits_by : Bool → ℕ
-digits_by x = cond x long.operand short.operand
-
-abbrev pub number_digits : List ℕ → ℕ
-number_digits s = digits_by (is_long s)

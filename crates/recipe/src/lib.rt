@@ -1,25 +1,16 @@
 // Recipes: what a step is, and what the reader answers (document 01, "Recipe text"). Types alone: `specs/` defines what they mean, `proofs/`
 // shows what holds of that, and the functions stand in the crates above.
 
-// The most steps of a recipe in the short form, and in the long one (document 02, W-206).
-pub const SHORT_STEPS: usize = 128;
+// The most steps that a recipe has.
+pub const MOST_STEPS: usize = 128;
 
-pub const MOST_STEPS: usize = 512;
-
-// The words that so many steps take: three a step (`specs/Packed.antt`).
-pub const SHORT_WORDS: usize = 3 * SHORT_STEPS;
-
+// The words that the most steps take: three a step (`specs/Packed.antt`).
 pub const MOST_WORDS: usize = 3 * MOST_STEPS;
 
-// How many digits name an operand in each form, and so a step and a place in whatever is written of such a text.
-pub const SHORT_OPERAND: usize = 2;
+// The bytes of a line of a recipe's text, and of the longest text.
+pub const LINE_LENGTH: usize = 39;
 
-pub const LONG_OPERAND: usize = 4;
-
-// The bytes of the longest text in each form. A line has 35 bytes and its operands' digits.
-pub const SHORT_TEXT: usize = SHORT_STEPS * (35 + 2 * SHORT_OPERAND);
-
-pub const LONGEST_TEXT: usize = MOST_STEPS * (35 + 2 * LONG_OPERAND);
+pub const LONGEST_TEXT: usize = MOST_STEPS * LINE_LENGTH;
 
 // A step's place in its recipe, counted from 0.
 #[derive(Drop)]

@@ -10,11 +10,11 @@ use borrow.Author.Tests.{lt-ltb, le-ltb}
 use Rattle.recipe.specs.declared.Reading.{Reading}
 use Rattle.recipe.specs.declared.Step.{Step}
 use Rattle.recipe.specs.declared.StepNumber.{StepNumber}
-use Rattle.recipe.specs.Text.{most_steps, steps_for, inputs_in, read_any}
+use Rattle.recipe.specs.Text.{short, most_steps, inputs_in, read_text}
 use Rattle.recipe.specs.Packed.{bad_words, steps_in, steps_of}
 use Rattle.recipe.specs.Answer.{Says, Formed, Holds}
 use Rattle.recipe.proofs.Packed.{steps_length, holds_words}
-use Rattle.recipe.proofs.Laws.{formed_inputs, answer_steps, answer_room, answer_holds, answer_refused}
+use Rattle.recipe.proofs.Laws.{formed_inputs, answer_steps, answer_count, answer_holds, answer_refused}
 use Rattle.frame.specs.declared.Inputs.{Inputs}
 use Rattle.frame.specs.declared.Ranges.{Ranges}
 use Rattle.frame.specs.declared.Ranges.TheVariants.{Within, Outside}
@@ -141,13 +141,14 @@ module _ (w s : List ℕ) (room : ℕ) (b : bad_words (length w) ≡ false) (n :
 
 -- ---- a text
 
-module _ (t s : List ℕ) (room : ℕ) (r : Reading) (w : List ℕ) (g : Says (read_any t) r w) where
+module _ (t s : List ℕ) (room : ℕ) (r : Reading) (w : List ℕ) (g : Says (read_text short t) r w) where
   -- the reader's refusal
   pub text_refused : (r.refusal ≡ 0 → ⊥) → run_of t s room ≡ refused r.refusal r.place.0
   text_refused h = law.run_refused t s room r.refusal r.place.0 (answer_refused t r w g h)
 
   -- else the words read are run, and these alone
-  pub text_run : r.refusal ≡ 0 → 3 * steps_for (length t) ≤ length w → run_words (take (3 * r.count) w) s room ≡ run_of t s room
+  pub text_run : r.refusal ≡ 0 → length w ≡ 3 * most_steps → run_words (take (3 * r.count) w) s room ≡ run_of t s room
   text_run z e =
-      holds_run (steps_in w r.count) (take (3 * r.count) w) s room (answer_holds t r w g z (answer_room t r w g z e))
+      let n = answer_count t r w g z in
+      holds_run (steps_in w r.count) (take (3 * r.count) w) s room (answer_holds t r w g z (omega (arith, n.1)))
       ∙ sym (law.run_read t s room (steps_in w r.count) (answer_steps t r w g z))

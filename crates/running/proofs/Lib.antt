@@ -1,5 +1,4 @@
 -- The laws of `running`.
-pub mod Held
 pub mod Running
 pub mod Carrying
 pub mod Calls

@@ -4,7 +4,7 @@ use mathlib.Core.List.{List}
 use Prim.Native.Nat.{ℕ}
 use lib.ListN.{length}
 use Rattle.recipe.specs.declared.Step.{Step}
-use Rattle.recipe.specs.Text.{steps, read_any}
+use Rattle.recipe.specs.Text.{short, steps, read_text}
 use Rattle.recipe.specs.Answer.{Holds}
 use Rattle.semantics.specs.declared.RunAnswer.{RunAnswer}
 use Rattle.semantics.specs.Run.{Run, run_steps, run_of, answer_of, words_of}
@@ -30,5 +30,5 @@ module _ (frame lent : List ℕ) (r : RunAnswer) (after : List ℕ) where
         ((a, b), λ rs ws i. rw (a, b) (sheet_sound l g.formed frame lent rs ws i)),
   )
 
-  pub with_text_promise : (t : List ℕ) → Answers (run_of t frame (length lent)) → Answers (run_of t frame (length lent)) × ((l : List Step) → read_any t ≡ steps l → Keeps l frame lent r after)
+  pub with_text_promise : (t : List ℕ) → Answers (run_of t frame (length lent)) → Answers (run_of t frame (length lent)) × ((l : List Step) → read_text short t ≡ steps l → Keeps l frame lent r after)
   with_text_promise t h = (h, λ l e rs ws i. rw (h.0, h.1) (text_sound t l e frame lent rs ws i))

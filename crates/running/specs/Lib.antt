@@ -1,4 +1,3 @@
 -- What the contracts of `running` cite beside the definitions of `semantics`.
 pub mod Carried
-pub mod Held
 pub mod Packed

@@ -9,7 +9,7 @@ use lib.Dec.{ltb}
 use lib.ListN.{length}
 use borrow.Author.Tests.{lt-ltb, le-ltb, eq-eqb, ne_eqb, ltb-false}
 use Rattle.recipe.specs.declared.Step.{Step}
-use Rattle.recipe.specs.Text.{Text, steps, inputs_in, read_any, number_digits}
+use Rattle.recipe.specs.Text.{Text, short, steps, inputs_in, read_text}
 use Rattle.recipe.specs.Text as text
 use Rattle.semantics.specs.Frame.{Frame, words, on_words, words_from, ranged, read_frame}
 use Rattle.semantics.specs.Frame as frame
@@ -108,70 +108,70 @@ run_length l s room r h = call_length (λ ws. run_from l 0 0 ws []) l s room r h
 
 module _ (t s : List ℕ) (room : ℕ) where
   -- the reader's refusal
-  pub run_refused : (number place : ℕ) → read_any t ≡ text.refused number place → run_of t s room ≡ refused number place
+  pub run_refused : (number place : ℕ) → read_text short t ≡ text.refused number place → run_of t s room ≡ refused number place
   unfolding run_of on_text
   run_refused number place e = rw e
 
-  pub run_read : (l : List Step) → read_any t ≡ steps l → run_of t s room ≡ run_steps l s room
+  pub run_read : (l : List Step) → read_text short t ≡ steps l → run_of t s room ≡ run_steps l s room
   unfolding run_of on_text
   run_read l e = rw e
 
 -- ---- the sheet
 
-module _ (w : ℕ) (l : List Step) (room : ℕ) where
+module _ (l : List Step) (room : ℕ) where
   -- refusal 40
-  pub sheet_short : room < length l * sheet_line w → sheet_steps w l room ≡ call.refused 40 0
+  pub sheet_short : room < sheet_line * length l → sheet_steps l room ≡ call.refused 40 0
   unfolding sheet_steps
-  sheet_short h = rw (lt-ltb room (length l * sheet_line w) h)
+  sheet_short h = rw (lt-ltb room (sheet_line * length l) h)
 
   -- else the ranges and the marks
-  pub sheet_reached : length l * sheet_line w ≤ room → sheet_steps w l room ≡ marked l (sheet_from l 0 [])
+  pub sheet_reached : sheet_line * length l ≤ room → sheet_steps l room ≡ marked l (sheet_from l 0 [])
   unfolding sheet_steps
-  sheet_reached h = rw (le-ltb room (length l * sheet_line w) h)
+  sheet_reached h = rw (le-ltb room (sheet_line * length l) h)
 
 module _ (t : List ℕ) (room : ℕ) where
   -- the reader's refusal
-  pub sheet_refused : (number place : ℕ) → read_any t ≡ text.refused number place → sheet_of t room ≡ call.refused number place
+  pub sheet_refused : (number place : ℕ) → read_text short t ≡ text.refused number place → sheet_of t room ≡ call.refused number place
   unfolding sheet_of call.on_text
   sheet_refused number place e = rw e
 
-  pub sheet_read : (l : List Step) → read_any t ≡ steps l → sheet_of t room ≡ sheet_steps (number_digits t) l room
+  pub sheet_read : (l : List Step) → read_text short t ≡ steps l → sheet_of t room ≡ sheet_steps l room
   unfolding sheet_of call.on_text
   sheet_read l e = rw e
 
 -- ---- as a user would state it
 
 -- The sheet call, given room, shows the ranges and the marks of every recipe whose sheet is passed.
-pub sheet_shows : (t : List ℕ) (l : List Step) (rs : List Range) (room : ℕ) → read_any t ≡ steps l → sheet_from l 0 [] ≡ passed rs → length l * sheet_line (number_digits t) ≤ room
+pub sheet_shows : (t : List ℕ) (l : List Step) (rs : List Range) (room : ℕ) → read_text short t ≡ steps l → sheet_from l 0 [] ≡ passed rs → sheet_line * length l ≤ room
     → sheet_of t room ≡ shown rs (marks_of l rs)
 unfolding marked
-sheet_shows t l rs room e g h = sheet_read t room l e ∙ sheet_reached (number_digits t) l room h ∙ ap (marked l) g
+sheet_shows t l rs room e g h = sheet_read t room l e ∙ sheet_reached l room h ∙ ap (marked l) g
 
 -- What is known of a sheet that the call shows.
 pub record Shows (t : List ℕ) (room : ℕ) (rs : List Range) (ms : List Bool) : Type 0 where
   pub list : List Step
-  pub reads : read_any t ≡ steps list
+  pub reads : read_text short t ≡ steps list
   pub passes : sheet_from list 0 [] ≡ passed rs
   pub marks : ms ≡ marks_of list rs
-  pub fits : length list * sheet_line (number_digits t) ≤ room
+  pub fits : sheet_line * length list ≤ room
 
 -- It passes no other recipe.
 pub sheet_passes_no_other : (t : List ℕ) (room : ℕ) (rs : List Range) (ms : List Bool) → sheet_of t room ≡ shown rs ms → Shows t room rs ms
 unfolding sheet_of call.on_text sheet_steps marked
-sheet_passes_no_other t room rs ms e = by_text (read_any t) refl e
+sheet_passes_no_other t room rs ms e = by_text (read_text short t) refl e
   where
-    by_fold : (l : List Step) (x : Sheet) → read_any t ≡ steps l → length l * sheet_line (number_digits t) ≤ room → sheet_from l 0 [] ≡ x → marked l x ≡ shown rs ms → Shows t room rs ms
+    by_fold : (l : List Step) (x : Sheet) → read_text short t ≡ steps l → sheet_line * length l ≤ room → sheet_from l 0 [] ≡ x → marked l x ≡ shown rs ms → Shows t room rs ms
     by_fold l (passed qs) f r g e =
         let q : qs ≡ rs = cc in
         let m : marks_of l qs ≡ ms = cc in
         record { list = l; reads = f; passes = g ∙ ap passed q; marks = sym m ∙ ap (marks_of l) q; fits = r }
     by_fold l (sheet.refused number k) f r g e = never (cc)
 
-    by_room : (l : List Step) (b : Bool) → read_any t ≡ steps l → ltb room (length l * sheet_line (number_digits t)) ≡ b
+    by_room : (l : List Step) (b : Bool) → read_text short t ≡ steps l → ltb room (sheet_line * length l) ≡ b
         → cond b (call.refused 40 0) (marked l (sheet_from l 0 [])) ≡ shown rs ms → Shows t room rs ms
     by_room l true f q g = never (cc)
-    by_room l false f q g = by_fold l (sheet_from l 0 []) f (ltb-false room (length l * sheet_line (number_digits t)) q) refl g
+    by_room l false f q g = by_fold l (sheet_from l 0 []) f (ltb-false room (sheet_line * length l) q) refl g
 
-    by_text : (x : Text) → read_any t ≡ x → call.on_text (number_digits t) x room ≡ shown rs ms → Shows t room rs ms
-    by_text (steps l) f g = by_room l (ltb room (length l * sheet_line (number_digits t))) f refl g
+    by_text : (x : Text) → read_text short t ≡ x → call.on_text x room ≡ shown rs ms → Shows t room rs ms
+    by_text (steps l) f g = by_room l (ltb room (sheet_line * length l)) f refl g
     by_text (text.refused number place) f g = never (cc)

@@ -8,9 +8,9 @@ use Prim.Native.Nat.{ℕ, suc, ◌+◌, ◌*◌, ◌≤◌, ◌<◌}
 use native.Mathlib.Omega.{arith}
 use lib.ListN.{length, get_or, length-append}
 use Rattle.recipe.specs.declared.Step.{Step}
-use Rattle.recipe.specs.Text.{Text, steps, first, second, read_any, number_digits}
+use Rattle.recipe.specs.Text.{Text, steps, short, first, second, read_text}
 use Rattle.recipe.specs.Text as text
-use Rattle.recipe.proofs.Laws.{any_refused}
+use Rattle.recipe.proofs.Laws.{read_refused}
 use Rattle.semantics.specs.Range.{Range, Ranged, ranged}
 use Rattle.semantics.specs.Range as range
 use Rattle.semantics.specs.Mark.{marks_of}
@@ -57,17 +57,17 @@ unfolding explain_steps
 explains l = tied_from l l 0 []
 
 -- of a text, with room for its sheet
-pub explains_text : (t : List ℕ) (room : ℕ) → ((l : List Step) → read_any t ≡ steps l → length l * sheet_line (number_digits t) ≤ room) → Tied (sheet_of t room) (explain_of t)
+pub explains_text : (t : List ℕ) (room : ℕ) → ((l : List Step) → read_text short t ≡ steps l → sheet_line * length l ≤ room) → Tied (sheet_of t room) (explain_of t)
 unfolding explain_of on_text
-explains_text t room h = pick (read_any t) refl
+explains_text t room h = pick (read_text short t) refl
   where
-    pick : (x : Text) → read_any t ≡ x → Tied (sheet_of t room) (on_text x)
-    pick (steps l) e = rw (sheet_read t room l e ∙ sheet_reached (number_digits t) l room (h l e)) (explains l)
+    pick : (x : Text) → read_text short t ≡ x → Tied (sheet_of t room) (on_text x)
+    pick (steps l) e = rw (sheet_read t room l e ∙ sheet_reached l room (h l e)) (explains l)
     pick (text.refused number place) e =
         rw (sheet_refused t room number place e)
         (before number place
-        (⊎_elim (λ a. omega (arith, a.0)) (λ a. omega (arith, a.0)) (any_refused t number place e))
-        (⊎_elim (λ a. omega (arith, a.0)) (λ a. omega (arith, a.1)) (any_refused t number place e)))
+        (⊎_elim (λ a. omega (arith, a.0)) (λ a. omega (arith, a.0)) (read_refused short t number place e))
+        (⊎_elim (λ a. omega (arith, a.0)) (λ a. omega (arith, a.1)) (read_refused short t number place e)))
 
 -- ---- the reason
 

@@ -14,7 +14,6 @@ pub mod Laws
 pub mod Sound
 pub mod MarkLaws
 pub mod Calls
-pub mod Forms
 pub mod Explaining
 pub mod Told
 pub mod Real

@@ -17,7 +17,7 @@ use Rattle.hexadecimal.specs.declared.Field.{Field}
 use Rattle.hexadecimal.specs.declared.Field.TheVariants.{Value, Malformed as Bad}
 use Rattle.recipe.specs.declared.Step.{Step}
 use Rattle.recipe.specs.Table.{row_of, is_input}
-use Rattle.recipe.specs.Text.{Text, steps, inputs_in, read_any}
+use Rattle.recipe.specs.Text.{Text, steps, short, inputs_in, read_text}
 use Rattle.recipe.specs.Text as text
 use Rattle.recipe.proofs.Laws as reader
 use Rattle.semantics.specs.Value.{Datum, Outcome, done, refused, as_double, as_whole, fits_word, worked, rule_of, step_value}
@@ -154,15 +154,15 @@ by_room : (b : Bool) (x : Run) → RunNumbered x → RunNumbered (cond b (run.re
 by_room true x p = stops 40 0 (omega arith) (omega arith)
 by_room false x p = p
 
-by_text : (t s : List ℕ) (room : ℕ) (x : Text) → read_any t ≡ x → RunNumbered (on_text x s room)
+by_text : (t s : List ℕ) (room : ℕ) (x : Text) → read_text short t ≡ x → RunNumbered (on_text x s room)
 unfolding on_text run_steps call_on
 by_text t s room (steps l) e = by_room (ltb room (length l)) (on_frame (read_frame l s) (λ ws. run_from l 0 0 ws [])) (on_frame_lem l (frame_numbered l s))
 by_text t s room (text.refused number place) e =
     ⊎_elim
     (λ w. let a = w.0 in stops number place (omega arith) (omega arith))
     (λ w. let a = w.0 in let b = w.1 in stops number place (omega arith) (omega arith))
-    (reader.any_refused t number place e)
+    (reader.read_refused short t number place e)
 
 pub run_numbered : (t s : List ℕ) (room : ℕ) → RunNumbered (run_of t s room)
 unfolding run_of
-run_numbered t s room = by_text t s room (read_any t) refl
+run_numbered t s room = by_text t s room (read_text short t) refl

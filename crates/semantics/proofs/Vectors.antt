@@ -18,7 +18,7 @@ use Rattle.arithmetic.specs.Arithmetic.{sum, difference, product}
 use Rattle.hexadecimal.specs.Hex.{digits, field_of, digit_of}
 use Rattle.recipe.specs.declared.Step.{Step}
 use Rattle.recipe.specs.Table.{row_of}
-use Rattle.recipe.specs.Text.{step, steps, read_any, feed_before, read_text, read_from, on_next, next_of, judged, step_refusal, inputs_in, line_at, from_fields}
+use Rattle.recipe.specs.Text.{short, step, steps, read_text, read_from, on_next, next_of, judged, step_refusal, inputs_in, line_at, from_fields}
 use Rattle.recipe.proofs.Examples.{bytes, lines}
 use Rattle.semantics.specs.Value.{Datum, double, whole, Outcome, done, rule_of, step_value}
 use Rattle.semantics.specs.Value as value
@@ -39,18 +39,18 @@ pub recipe : List ℕ
 recipe = lines ("010000c004000000000000401d000000000000" ∷ "10000000000000000000000000000000000000" ∷ "18010000000000000000000000000000000000" ∷ [])
 
 -- its sheet, and bytes past it that stay as lent
-pub sheet_example : bytes_of 2 (sheet_of recipe 121) (recipe ++ bytes "past")
+pub sheet_example : bytes_of (sheet_of recipe 121) (recipe ++ bytes "past")
     ≡ lines ("000100c004000000000000401d000000000000" ∷ "010101c008000000000000401c000000000000" ∷ "020201fffffffffffffffd0000000000000007" ∷ []) ++ bytes "past"
-unfolding recipe bytes lines read_any feed_before read_text read_from on_next next_of judged step_refusal inputs_in line_at from_fields row_of field_of digit_of is_nan above under magnitude sheet_of on_text sheet_steps marked marks_from mark_rule sheet_from on_ranged step_range range_rule lines_from digits integral parts whole_part lround_refusal lround_value encode is_infinite is_zero quieted size span climb
+unfolding recipe bytes lines read_text read_from on_next next_of judged step_refusal inputs_in line_at from_fields row_of field_of digit_of is_nan above under magnitude sheet_of on_text sheet_steps marked marks_from mark_rule sheet_from on_ranged step_range range_rule lines_from digits integral parts whole_part lround_refusal lround_value encode is_infinite is_zero quieted size span climb
 sheet_example = refl
 
 -- its frames: -0.5 gives -1, a whole number; 7.5 is refused 32 at step 0
 pub run_example : answer_of (run_of recipe (bytes "bfe0000000000000") 3) ≡ record { refusal = 0; place = 0; kind = 2; word = 0xffff_ffff_ffff_ffff }
-unfolding recipe bytes lines read_any feed_before read_text read_from on_next next_of judged step_refusal inputs_in line_at from_fields row_of field_of digit_of is_nan above under magnitude run_of run.on_text run_steps call_on on_frame read_frame on_words words_from on_field frame.ranged run_from on_outcome step_value rule_of integral parts whole_part lround_refusal lround_value encode is_infinite is_zero quieted size span climb
+unfolding recipe bytes lines read_text read_from on_next next_of judged step_refusal inputs_in line_at from_fields row_of field_of digit_of is_nan above under magnitude run_of run.on_text run_steps call_on on_frame read_frame on_words words_from on_field frame.ranged run_from on_outcome step_value rule_of integral parts whole_part lround_refusal lround_value encode is_infinite is_zero quieted size span climb
 run_example = refl
 
 pub refused_example : answer_of (run_of recipe (bytes "401e000000000000") 3) ≡ record { refusal = 32; place = 0; kind = 0; word = 0 }
-unfolding recipe bytes lines read_any feed_before read_text read_from on_next next_of judged step_refusal inputs_in line_at from_fields row_of field_of digit_of is_nan above under magnitude run_of run.on_text run_steps call_on on_frame read_frame on_words words_from on_field frame.ranged
+unfolding recipe bytes lines read_text read_from on_next next_of judged step_refusal inputs_in line_at from_fields row_of field_of digit_of is_nan above under magnitude run_of run.on_text run_steps call_on on_frame read_frame on_words words_from on_field frame.ranged
 refused_example = refl
 
 -- ---- demand 3 of it, on the frame of -0.5: what the promise asks for is there, and this is what it gives
@@ -74,8 +74,8 @@ example_frame = bytes "bfe0000000000000"
 abbrev pub example_lent : List ℕ
 example_lent = 10 ∷ 11 ∷ 12 ∷ 13 ∷ []
 
-pub read_example : read_any recipe ≡ steps example_steps
-unfolding recipe bytes lines read_any feed_before read_text read_from on_next next_of judged step_refusal inputs_in line_at from_fields row_of field_of digit_of is_nan above under magnitude
+pub read_example : read_text short recipe ≡ steps example_steps
+unfolding recipe bytes lines read_text read_from on_next next_of judged step_refusal inputs_in line_at from_fields row_of field_of digit_of is_nan above under magnitude
 read_example = refl
 
 pub given_example : Given example_steps example_frame (length example_lent) example_ranges (0xbfe0_0000_0000_0000 ∷ [])

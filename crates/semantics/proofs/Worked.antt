@@ -10,7 +10,7 @@ use lib.ListN.{length, take, get_or}
 use borrow.Author.Tests.{ltb-false}
 use Rattle.recipe.specs.declared.Step.{Step}
 use Rattle.recipe.specs.Table.{row_of, is_input}
-use Rattle.recipe.specs.Text.{Text, steps, no_step, inputs_in, read_any}
+use Rattle.recipe.specs.Text.{Text, steps, short, no_step, inputs_in, read_text}
 use Rattle.recipe.specs.Text as text
 use Rattle.semantics.specs.Value.{Datum, Outcome, done}
 use Rattle.semantics.specs.Value as value
@@ -97,26 +97,26 @@ run_worked ts ws l e =
 pub record Completed (t s : List ℕ) (room : ℕ) (l : List Datum) : Type 0 where
   pub ts : List Step
   pub ws : List ℕ
-  pub text : read_any t ≡ steps ts
+  pub text : read_text short t ≡ steps ts
   pub fits : length ts ≤ room
   pub frame : read_frame ts s ≡ words ws
   pub worked : Worked ts ws l
 
 module _ (t s : List ℕ) (room : ℕ) (l : List Datum) where
-  by_frame : (ts : List Step) → read_any t ≡ steps ts → length ts ≤ room → (x : Frame) → read_frame ts s ≡ x → on_frame x (λ ws. run_from ts 0 0 ws []) ≡ completed l → Completed t s room l
+  by_frame : (ts : List Step) → read_text short t ≡ steps ts → length ts ≤ room → (x : Frame) → read_frame ts s ≡ x → on_frame x (λ ws. run_from ts 0 0 ws []) ≡ completed l → Completed t s room l
   unfolding on_frame
   by_frame ts e r (words ws) f h = record { ts = ts; ws = ws; text = e; fits = r; frame = f; worked = run_worked ts ws l h }
   by_frame ts e r (frame.refused number place) f h = never l number place h
 
-  by_room : (ts : List Step) → read_any t ≡ steps ts → (b : Bool) → ltb room (length ts) ≡ b → cond b (refused 40 0) (on_frame (read_frame ts s) (λ ws. run_from ts 0 0 ws [])) ≡ completed l → Completed t s room l
+  by_room : (ts : List Step) → read_text short t ≡ steps ts → (b : Bool) → ltb room (length ts) ≡ b → cond b (refused 40 0) (on_frame (read_frame ts s) (λ ws. run_from ts 0 0 ws [])) ≡ completed l → Completed t s room l
   by_room ts e true q h = never l 40 0 h
   by_room ts e false q h = by_frame ts e (ltb-false room (length ts) q) (read_frame ts s) refl h
 
-  by_text : (x : Text) → read_any t ≡ x → on_text x s room ≡ completed l → Completed t s room l
+  by_text : (x : Text) → read_text short t ≡ x → on_text x s room ≡ completed l → Completed t s room l
   unfolding on_text run_steps call_on
   by_text (steps ts) e h = by_room ts e (ltb room (length ts)) refl h
   by_text (text.refused number place) e h = never l number place h
 
   pub by_run : run_of t s room ≡ completed l → Completed t s room l
   unfolding run_of
-  by_run h = by_text (read_any t) refl h
+  by_run h = by_text (read_text short t) refl h

@@ -2,7 +2,7 @@
 -- (document 02, W-205). Definitions only; assumes nothing.
 use Rattle.std.specs.Prelude.{List, [], ◌∷◌, ◌++◌, ℕ, suc, get_or}
 use Rattle.recipe.specs.declared.Step.{Step}
-use Rattle.recipe.specs.Text.{Text, steps, first, second, read_any}
+use Rattle.recipe.specs.Text.{Text, steps, short, first, second, read_text}
 use Rattle.recipe.specs.Text as text
 use Rattle.semantics.specs.declared.ExplainAnswer.{ExplainAnswer}
 use Rattle.semantics.specs.Range.{Range, Ranged, ranged}
@@ -46,7 +46,7 @@ on_text (steps l) = explain_steps l
 on_text (text.refused number place) = refused number place
 
 unfoldable pub explain_of : List ℕ → Explained
-explain_of t = on_text (read_any t)
+explain_of t = on_text (read_text short t)
 
 -- ---- what is answered; what is not used is 0
 

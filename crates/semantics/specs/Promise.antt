@@ -6,7 +6,7 @@ use Rattle.float_format.specs.Format.{binary64, is_nan}
 use Rattle.float_format.specs.Number.{AtMost, is_integral}
 use Rattle.recipe.specs.declared.Step.{Step}
 use Rattle.recipe.specs.Table.{kind_number}
-use Rattle.recipe.specs.Text.{steps, most_steps, read_any}
+use Rattle.recipe.specs.Text.{steps, short, most_steps, read_text}
 use Rattle.recipe.specs.Text as text
 use Rattle.recipe.specs.Answer.{Formed}
 use Rattle.semantics.specs.declared.RunAnswer.{RunAnswer}
@@ -76,8 +76,8 @@ Promise =
     (l : List Step) → Formed most_steps l → (s lent : List ℕ)
     → Keeps l s lent (answer_of (run_steps l s (length lent))) (words_of (run_steps l s (length lent)) lent)
 
--- .. and so about any text, in whichever form: none of refusals 10 to 17 holds of it.
+-- .. and so about any text: none of refusals 10 to 17 holds of it.
 abbrev pub TextPromise : Type 0
 TextPromise =
-    (t : List ℕ) (l : List Step) → read_any t ≡ steps l → (s lent : List ℕ)
+    (t : List ℕ) (l : List Step) → read_text short t ≡ steps l → (s lent : List ℕ)
     → Keeps l s lent (answer_of (run_of t s (length lent))) (words_of (run_of t s (length lent)) lent)

@@ -3,7 +3,7 @@
 use Rattle.std.specs.Prelude.{cond, List, [], ◌∷◌, ◌++◌, map, ℕ, suc, ◌+◌, ◌-◌, ltb, pos, length, get_or, drop}
 use Rattle.recipe.specs.declared.Step.{Step}
 use Rattle.recipe.specs.Table.{row_of, is_input, kind_number}
-use Rattle.recipe.specs.Text.{Text, steps, first, second, read_any}
+use Rattle.recipe.specs.Text.{Text, steps, short, first, second, read_text}
 use Rattle.recipe.specs.Text as text
 use Rattle.semantics.specs.declared.RunAnswer.{RunAnswer}
 use Rattle.semantics.specs.Value.{Datum, whole, kind_of, word_of, Outcome, done, step_value}
@@ -55,7 +55,7 @@ on_text (text.refused number place) s room = refused number place
 
 -- the recipe t on the frame s, with room for so many words
 unfoldable pub run_of : List ℕ → List ℕ → ℕ → Run
-run_of t s room = on_text (read_any t) s room
+run_of t s room = on_text (read_text short t) s room
 
 -- ---- what is answered, and the lent words before and after
 

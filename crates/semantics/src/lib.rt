@@ -1,11 +1,11 @@
 // What a recipe means: the values of its steps on a frame, their ranges, and what a passed sheet promises. Types and numbers alone: `specs/`
 // has the definitions, `proofs/` what holds of them, and the functions stand in the crates above.
-use recipe::{LONG_OPERAND, MOST_STEPS};
+use recipe::MOST_STEPS;
 
-// The bytes of a sheet's line apart from the digits of its step, and the bytes of the longest sheet.
-pub const SHEET_REST: usize = 37;
+// The bytes of a sheet's line, and of the longest sheet.
+pub const SHEET_LINE: usize = 39;
 
-pub const LONGEST_SHEET: usize = MOST_STEPS * (SHEET_REST + LONG_OPERAND);
+pub const LONGEST_SHEET: usize = MOST_STEPS * SHEET_LINE;
 
 // What the run call answers: a refusal's number and place, or the last step's kind and word. What is not used is 0.
 #[repr(C)]

@@ -1,7 +1,7 @@
 // Writes the sheet of the recipe on standard input, or the refusal line of a recipe that is turned down (document 01, "Sheet and run on
 // paper"). Where standard input cannot be read, or standard output not be written, it says so on standard error.
 //
-// No more than 22,017 bytes are read: a text that long is refused by its length, however it goes on.
+// No more than 4,993 bytes are read: a text that long is refused by its length, however it goes on.
 use programs::LOOKED_AT;
 use semantics::LONGEST_SHEET;
 

@@ -1,5 +1,5 @@
-// A line of a sheet (document 01, "Sheet and run on paper"; document 02, W-203 and W-206).
-ghost use Rattle.std.specs.Prelude.{◌≡◌, ◌+◌, ◌*◌, ◌≤◌, ◌<◌, length};
+// A line of a sheet (document 01, "Sheet and run on paper"; document 02, W-203).
+ghost use Rattle.std.specs.Prelude.{◌≡◌, ◌+◌, ◌*◌, ◌<◌, length};
 ghost use Rattle.recipe.specs.Table.{kind_number};
 ghost use Rattle.recipe.specs.Text.{most_steps};
 ghost use Rattle.semantics.specs.Range.{kind_of};
@@ -15,7 +15,7 @@ fn mark_number(mark: bool) -> u64
     if mark { 1 } else { 0 }
 }
 
-// Step, kind and mark as one number, so that their digits are written together.
+// Step, kind and mark as one number, so that their two digits each are written together.
 fn line_head(step: usize, mark: bool, r: Range) -> u64
     requires { step < most_steps }
     ensures { result ≡ step * 0x1_0000 + kind_number (kind_of (seen_range r)) * 0x100 + mark_number mark }
@@ -24,16 +24,13 @@ fn line_head(step: usize, mark: bool, r: Range) -> u64
     step as u64 * 0x1_0000 + kind * 0x100 + mark_number(mark)
 }
 
-// Fills a line: step so many digits, kind 2, mark 2, low 16, high 16, a line feed.
-pub fn write_line(step: usize, digits: usize, mark: bool, r: Range, line: &mut [u8])
-    requires { (digits ≤ 4) × (length line.old ≡ sheet_line digits) × (step < most_steps) × RealRange r }
-    ensures { line.new ≡ line_of digits step mark (seen_range r) }
+// Fills a line: step 2 digits, kind 2, mark 2, low 16, high 16, a line feed.
+pub fn write_line(step: usize, mark: bool, r: Range, line: &mut [u8])
+    requires { (length line.old ≡ sheet_line) × (step < most_steps) × RealRange r }
+    ensures { line.new ≡ line_of step mark (seen_range r) }
 {
-    let low = digits + 4;
-    let high = low + 16;
-    let end = high + 16;
-    hexadecimal::write(line_head(step, mark, r), &mut line[..low]);
-    hexadecimal::write(r.low_word(), &mut line[low..high]);
-    hexadecimal::write(r.high_word(), &mut line[high..end]);
-    line[end] = b'\n';
+    hexadecimal::write(line_head(step, mark, r), &mut line[..6]);
+    hexadecimal::write(r.low_word(), &mut line[6..22]);
+    hexadecimal::write(r.high_word(), &mut line[22..38]);
+    line[38] = b'\n';
 }

@@ -9,9 +9,9 @@ use Rattle.ranges.specs.Carried.{carried_from}
 abbrev pub carried_sheet : List Step → Shown
 carried_sheet l = marked l (carried_from l 0 [])
 
--- Of words that no text was read to, in lines with d digits for a step's number: 10 at place 0 where they are not those of steps. All others have the
--- sheet of their steps as floats hold its ranges; that of formed steps is `sheet_steps` (`holds_sheet`).
-unfoldable pub sheet_words : ℕ → List ℕ → ℕ → Shown
-sheet_words d w room =
+-- Of words that no text was read to: 10 at place 0 where they are not those of steps. All others have the sheet of their steps as floats hold
+-- its ranges; that of formed steps is `sheet_steps` (`holds_sheet`).
+unfoldable pub sheet_words : List ℕ → ℕ → Shown
+sheet_words w room =
     cond (bad_words (length w)) (refused 10 0)
-    (cond (ltb room (length (steps_of w) * sheet_line d)) (refused 40 0) (carried_sheet (steps_of w)))
+    (cond (ltb room (sheet_line * length (steps_of w))) (refused 40 0) (carried_sheet (steps_of w)))

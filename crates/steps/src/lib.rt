@@ -14,7 +14,7 @@ pub fn any(x: bool, y: bool) -> bool
     if x { true } else { y }
 }
 
-// Whether so many words are not those of 1 to 512 steps.
+// Whether so many words are not those of 1 to 128 steps.
 pub fn bad_words(n: usize) -> bool
     ensures { result ≡ bad_words n }
 {

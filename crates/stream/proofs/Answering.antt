@@ -40,54 +40,54 @@ put_some l ys z n j h k =
 
 -- the lines from a place up to i, answered in the first bytes of the output; some, once i has moved; and the others that there is room for are
 -- still due
-pub record Going (d : ℕ) (w s : List ℕ) (from : ℕ) (out₀ out : List ℕ) (i put : ℕ) : Type 0 where
+pub record Going (w s : List ℕ) (from : ℕ) (out₀ out : List ℕ) (i put : ℕ) : Type 0 where
   pub out_length : length out ≡ length out₀
   pub after : from ≤ i
   pub within : i ≤ length s
   pub room : put ≤ length out₀
   pub idle : i ≤ from → put ≡ 0
-  pub paid : (l : List Step) → Holds l w → Paid d l [] (between from i s) (take put out) []
-  pub due : (l : List Step) → Holds l w → Due d l s from (length out₀) i put (take put out)
+  pub paid : (l : List Step) → Holds l w → Paid l [] (between from i s) (take put out) []
+  pub due : (l : List Step) → Holds l w → Due l s from (length out₀) i put (take put out)
   pub rest : Untouched put out₀ out
 
-pub going_none : (d : ℕ) (w s : List ℕ) (from : ℕ) (out : List ℕ) → from ≤ length s → Going d w s from out out from 0
-going_none d w s from out h =
+pub going_none : (w s : List ℕ) (from : ℕ) (out : List ℕ) → from ≤ length s → Going w s from out out from 0
+going_none w s from out h =
     record {
       out_length = refl;
       after = omega arith;
       within = h;
       room = omega arith;
       idle = λ _. refl;
-      paid = λ l g. rw (between_none s from) (paid_none d l []);
-      due = λ l g. due_none d l s from (length out);
+      paid = λ l g. rw (between_none s from) (paid_none l []);
+      due = λ l g. due_none l s from (length out);
       rest = refl;
     }
 
-module _ (w : ℕ) (v s : List ℕ) (from : ℕ) (out₀ out : List ℕ) (i put : ℕ) (g : Going w v s from out₀ out i put) where
+module _ (w s : List ℕ) (from : ℕ) (out₀ out : List ℕ) (i put : ℕ) (g : Going w s from out₀ out i put) where
   -- a turn: the line up to e, of whose answer p bytes are put into the rest of the output
   pub going_more : (e p : ℕ) (ys : List ℕ) → LineEnd s i e → e < length s → p ≤ 19 → 19 ≤ length out - put
       → length ys ≡ length out - put → Untouched p (take (length out - put) (drop put out)) ys → length (part-put put (length out - put) out ys) ≡ length out
-      → ((l : List Step) → Holds l v → take p ys ≡ frame_line w l (between i e s))
-      → Going w v s from out₀ (part-put put (length out - put) out ys) (e + 1) (put + p)
-  going_more e p ys d h k m x u y o =
+      → ((l : List Step) → Holds l w → take p ys ≡ frame_line l (between i e s))
+      → Going w s from out₀ (part-put put (length out - put) out ys) (e + 1) (put + p)
+  going_more e p ys d h k m x u y v =
       let q : put ≤ length out = omega (arith, g.room, g.out_length) in
       record {
         out_length = y ∙ g.out_length;
         after = omega (arith, g.after, d.after);
         within = omega arith;
         room = omega (arith, g.room, g.out_length);
-        idle = λ z. absurd (omega (arith, g.after, d.after));
+        idle = λ o. absurd (omega (arith, g.after, d.after));
         paid = λ l f.
             rw (between_join s from i (e + 1) g.after (omega (arith, d.after)), put_some out ys (drop (length out - put) (drop put out)) put p q (omega arith), ended_piece s i e d h)
-            (paid_join w l [] (between from i s) (take put out) [] (between i e s ++ (10 ∷ [])) (take p ys) [] (g.paid l f) (paid_line w l [] (between i e s) (take p ys) (plain_piece s i e d) (o l f)));
+            (paid_join l [] (between from i s) (take put out) [] (between i e s ++ (10 ∷ [])) (take p ys) [] (g.paid l f) (paid_line l [] (between i e s) (take p ys) (plain_piece s i e d) (v l f)));
         due = λ l f.
             rw (put_some out ys (drop (length out - put) (drop put out)) put p q (omega arith))
-            (due_more w l s from (length out₀) i put (take put out) (g.due l f) e p (take p ys) d h (omega (arith, g.out_length)) (o l f) (length-take-le p ys (omega arith)));
+            (due_more l s from (length out₀) i put (take put out) (g.due l f) e p (take p ys) d h (omega (arith, g.out_length)) (v l f) (length-take-le p ys (omega arith)));
         rest = untouched_join out₀ out (part-put put (length out - put) out ys) put (put + p) (put + p) (omega arith) (omega arith) g.rest (untouched_part out ys put (length out - put) p (omega arith) (omega arith) x u);
       }
 
   -- the rest has no line feed
-  pub going_rest : (e : ℕ) → LineEnd s i e → e ≡ length s → 19 ≤ length out₀ → Answered w v s from (record { at = i; put = put; full = false }) out
+  pub going_rest : (e : ℕ) → LineEnd s i e → e ≡ length s → 19 ≤ length out₀ → Answered w s from (record { at = i; put = put; full = false }) out
   going_rest e d h m =
       record {
         after = g.after;
@@ -95,11 +95,11 @@ module _ (w : ℕ) (v s : List ℕ) (from : ℕ) (out₀ out : List ℕ) (i put 
         moved = λ z. never (cc);
         rest = λ _. rw h at d;
         paid = g.paid;
-        batch = λ l f. rw g.out_length (due_ended w l s from (length out₀) i put (take put out) (g.due l f) m (ended_rest s i e d h));
+        batch = λ l f. rw g.out_length (due_ended l s from (length out₀) i put (take put out) (g.due l f) m (ended_rest s i e d h));
       }
 
   -- the output has room for one answer, so that at least one line was taken before it is full
-  pub going_full : 19 ≤ length out₀ → length out - put < 19 → Answered w v s from (record { at = i; put = put; full = true }) out
+  pub going_full : 19 ≤ length out₀ → length out - put < 19 → Answered w s from (record { at = i; put = put; full = true }) out
   going_full h k =
       record {
         after = g.after;
@@ -110,5 +110,5 @@ module _ (w : ℕ) (v s : List ℕ) (from : ℕ) (out₀ out : List ℕ) (i put 
             (lt_or_ge from i);
         rest = λ z. never (cc);
         paid = g.paid;
-        batch = λ l f. rw g.out_length (due_full w l s from (length out₀) i put (take put out) (g.due l f) h (omega (arith, g.out_length)));
+        batch = λ l f. rw g.out_length (due_full l s from (length out₀) i put (take put out) (g.due l f) h (omega (arith, g.out_length)));
       }

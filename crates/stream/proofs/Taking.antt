@@ -56,7 +56,7 @@ module _ (before t chunk : List ℕ) (from : ℕ) (buffer : List ℕ) (n last i 
   taken_size : length (take n buffer) ≡ n
   taken_size = let r = g.room in let f = g.few in let e = g.size in length-take-le n buffer (omega arith)
 
-  pub taken_endless : n ≡ looked_at → (s : List ℕ) → part_after t (between from (i + 1) chunk ++ s) ≡ endless (take n buffer)
+  pub taken_endless : n ≡ looked_at → (s : List ℕ) → part_after t (between from (i + 1) chunk ++ s) ≡ endless
   taken_endless e s = let z = taken_size in next s ∙ part_endless (take n buffer) s (get_or chunk i 0) (omega arith)
 
   module _ (m : n ≡ looked_at → ⊥) where

@@ -52,29 +52,23 @@ fn keep(buffer: &mut [u8], n: usize, part: &[u8]) -> usize
 }
 
 // Answers a line of which n bytes are kept.
-pub(crate) fn kept_line(
-    steps: &[u64],
-    digits: usize,
-    buffer: &[u8],
-    n: usize,
-    out: &mut [u8],
-) -> usize
-    requires { (digits ≤ 4) × (256 ≤ length buffer.now) × (19 ≤ length out.old) }
+pub(crate) fn kept_line(steps: &[u64], buffer: &[u8], n: usize, out: &mut [u8]) -> usize
+    requires { (256 ≤ length buffer.now) × (19 ≤ length out.old) }
     ensures { (result ≤ 19) × (
-        (l : List Step) (line : List ℕ) → Holds l steps.now → Kept line n buffer.now → take result out.new ≡ frame_line digits l line)
+        (l : List Step) (line : List ℕ) → Holds l steps.now → Kept line n buffer.now → take result out.new ≡ frame_line l line)
         × Untouched result out.old out.new }
 {
     if n > 256 {
-        return refusal_line(30, 0, digits, out);
+        return refusal_line(30, 0, out);
     }
-    frame_line(steps, digits, &buffer[..n], out)
+    frame_line(steps, &buffer[..n], out)
 }
 
 // Answers the lines of s from a place on, until no line feed is left or out has too little room for another answer. The steps are those of
-// a recipe that was read, and places have so many digits.
-pub fn answer_lines(steps: &[u64], digits: usize, s: &[u8], from: usize, out: &mut [u8]) -> Lines
-    requires { (digits ≤ 4) × (from ≤ length s.now) × (19 ≤ length out.old) }
-    ensures { (result.put ≤ length out.old) × Answered digits steps.now s.now from result out.new
+// a recipe that was read.
+pub fn answer_lines(steps: &[u64], s: &[u8], from: usize, out: &mut [u8]) -> Lines
+    requires { (from ≤ length s.now) × (19 ≤ length out.old) }
+    ensures { (result.put ≤ length out.old) × Answered steps.now s.now from result out.new
         × Untouched result.put out.old out.new }
 {
     let mut i = from;
@@ -88,7 +82,7 @@ pub fn answer_lines(steps: &[u64], digits: usize, s: &[u8], from: usize, out: &m
                 full: false,
             };
         }
-        put += frame_line(steps, digits, &s[i..end], &mut out[put..]);
+        put += frame_line(steps, &s[i..end], &mut out[put..]);
         i = end + 1;
     }
     Lines {
@@ -101,17 +95,16 @@ pub fn answer_lines(steps: &[u64], digits: usize, s: &[u8], from: usize, out: &m
 // Takes the chunk's bytes of a line of which a part is kept, and answers the line where it ends in the chunk.
 fn take_rest(
     steps: &[u64],
-    digits: usize,
     buffer: &mut [u8],
     count: usize,
     chunk: &[u8],
     from: usize,
     out: &mut [u8],
 ) -> Turn
-    requires { (digits ≤ 4) × (256 ≤ length buffer.old) × (from < length chunk.now) × (19 ≤ length out.old) }
+    requires { (256 ≤ length buffer.old) × (from < length chunk.now) × (19 ≤ length out.old) }
     ensures { (from < result.at) × (result.at ≤ length chunk.now) × (result.put ≤ length out.old) × (
         (l : List Step) (line : List ℕ) → Holds l steps.now → Kept line count buffer.old → NoFeed line →
-        Handled digits l line (between from result.at chunk.now) (take result.put out.new) result.count buffer.new)
+        Handled l line (between from result.at chunk.now) (take result.put out.new) result.count buffer.new)
         × Untouched result.put out.old out.new × Untouched 256 buffer.old buffer.new }
 {
     let end = line_end(chunk, from);
@@ -123,7 +116,7 @@ fn take_rest(
             put: 0,
         };
     }
-    let put = kept_line(steps, digits, buffer, kept, out);
+    let put = kept_line(steps, buffer, kept, out);
     Turn {
         at: end + 1,
         count: 0,
@@ -135,23 +128,22 @@ fn take_rest(
 // answer.
 pub(crate) fn take_lines(
     steps: &[u64],
-    digits: usize,
     buffer: &mut [u8],
     count: usize,
     chunk: &[u8],
     from: usize,
     out: &mut [u8],
 ) -> Turn
-    requires { (digits ≤ 4) × (256 ≤ length buffer.old) × (from < length chunk.now) × (19 ≤ length out.old) }
+    requires { (256 ≤ length buffer.old) × (from < length chunk.now) × (19 ≤ length out.old) }
     ensures { (from < result.at) × (result.at ≤ length chunk.now) × (result.put ≤ length out.old) × (
         (l : List Step) (line : List ℕ) → Holds l steps.now → Kept line count buffer.old → NoFeed line →
-        Handled digits l line (between from result.at chunk.now) (take result.put out.new) result.count buffer.new)
+        Handled l line (between from result.at chunk.now) (take result.put out.new) result.count buffer.new)
         × Untouched result.put out.old out.new × Untouched 256 buffer.old buffer.new }
 {
     if count > 0 {
-        return take_rest(steps, digits, buffer, count, chunk, from, out);
+        return take_rest(steps, buffer, count, chunk, from, out);
     }
-    let lines = answer_lines(steps, digits, chunk, from, out);
+    let lines = answer_lines(steps, chunk, from, out);
     let at = lines.at;
     if lines.full {
         return Turn {

@@ -1,12 +1,11 @@
-// The run program's work: its input in chunks that are cut anywhere, its output piece by piece (document 01, "Sheet and run on paper"; document
-// 02, W-206).
+// The run program's work: its input in chunks that are cut anywhere, its output piece by piece (document 01, "Sheet and run on paper").
 //
 // `start`, then `feed` with each chunk until it is used up, then `finish`: the bytes put out are those that `run_output` of
 // `programs/specs/Output.antt` says of the whole input, however it was cut (`programs/proofs/Chunks.antt`). The caller lends the same buffer
 // and the same words to every call: the bytes of a recipe or a line that is not at its end yet, and the steps of the recipe once it is read.
 ghost use Rattle.std.specs.Prelude.{◌≡◌, List, [], ℕ, ◌*◌, ◌≤◌, ◌<◌, length, take};
 ghost use Rattle.recipe.specs.declared.Step.{Step};
-ghost use Rattle.recipe.specs.Text.{most_steps, is_long, read_any, digits_by, number_digits};
+ghost use Rattle.recipe.specs.Text.{short, most_steps, read_text};
 ghost use Rattle.recipe.specs.Answer.{Says, Holds};
 ghost use Rattle.programs.specs.Output.{looked_at, on_recipe};
 ghost use Rattle.programs.specs.Stage.{Reading, heading, running, is_done, NoFeed, Kept, Stands, Standing, Fed, Finished, between, Untouched};
@@ -15,7 +14,6 @@ use frames::{kept_line, take_lines};
 use head::take_recipe;
 use output::refusal_line;
 use programs::{End, Stage, State};
-use reader::{is_long, number_digits};
 
 mod frames;
 mod head;
@@ -30,33 +28,26 @@ pub struct Progress {
     pub put: usize,
 }
 
-// What the reader answered, whether the text is in the long form, and the bytes put out.
+// What the reader answered, and the bytes put out.
 #[derive(Drop)]
 struct Opened {
     reading: recipe::Reading,
-    long: bool,
     put: usize,
 }
 
 // Reads the recipe whose text is the first n bytes of the buffer into the words, and writes its refusal line where it is refused.
 fn read_recipe(buffer: &[u8], n: usize, steps: &mut [u64], out: &mut [u8]) -> Opened
     requires { (n ≤ length buffer.now) × (3 * most_steps ≤ length steps.old) × (19 ≤ length out.old) }
-    ensures { (result.put ≤ 19) × (result.long ≡ is_long (take n buffer.now)) × Says (read_any (take n buffer.now)) result.reading steps.new
-        × (take result.put out.new ≡ on_recipe (number_digits (take n buffer.now)) (read_any (take n buffer.now)) (λ l. []))
+    ensures { (result.put ≤ 19) × Says (read_text short (take n buffer.now)) result.reading steps.new
+        × (take result.put out.new ≡ on_recipe (read_text short (take n buffer.now)) (λ l. []))
         × Untouched result.put out.old out.new × Untouched (3 * most_steps) steps.old steps.new }
 {
     let reading = reader::read(&buffer[..n], steps);
-    let long = is_long(&buffer[..n]);
     if reading.refusal != 0 {
-        let digits = number_digits(long);
-        let put = refusal_line(reading.refusal, reading.place.0 as u64, digits, out);
-        return Opened { reading, long, put };
+        let put = refusal_line(reading.refusal, reading.place.0 as u64, out);
+        return Opened { reading, put };
     }
-    Opened {
-        reading,
-        long,
-        put: 0,
-    }
+    Opened { reading, put: 0 }
 }
 
 // Feeds a chunk from a place on, in the recipe.
@@ -84,7 +75,6 @@ fn feed_recipe(
                 stage: Stage::Recipe,
                 count: n,
                 steps: 0,
-                long: false,
             },
             at,
             put: 0,
@@ -99,7 +89,6 @@ fn feed_recipe(
                         stage: Stage::Done,
                         count: 0,
                         steps: 0,
-                        long: false,
                     },
                     at,
                     put,
@@ -110,21 +99,18 @@ fn feed_recipe(
                     stage: Stage::Frames,
                     count: 0,
                     steps: reading.count,
-                    long: opened.long,
                 },
                 at,
                 put,
             }
         }
         End::Endless => {
-            let digits = number_digits(is_long(&buffer[..n]));
-            let put = refusal_line(10, 0, digits, out);
+            let put = refusal_line(10, 0, out);
             Progress {
                 state: State {
                     stage: Stage::Done,
                     count: 0,
                     steps: 0,
-                    long: false,
                 },
                 at,
                 put,
@@ -145,18 +131,16 @@ fn feed_frames(
     requires { (256 ≤ length buffer.old) × (3 * state.steps ≤ length steps.now) × (from < length chunk.now) × (19 ≤ length out.old) }
     ensures { (from < result.at) × (result.at ≤ length chunk.now) × (result.put ≤ length out.old) × (
         (l : List Step) (line : List ℕ) → Holds l (take (3 * state.steps) steps.now) → Kept line state.count buffer.old → NoFeed line →
-        Fed (running (digits_by state.long) l line) (between from result.at chunk.now) (take result.put out.new) result.state buffer.new steps.now)
+        Fed (running l line) (between from result.at chunk.now) (take result.put out.new) result.state buffer.new steps.now)
         × Untouched result.put out.old out.new × Untouched 256 buffer.old buffer.new }
 {
     let end = 3 * state.steps;
-    let digits = number_digits(state.long);
-    let turn = take_lines(&steps[..end], digits, buffer, state.count, chunk, from, out);
+    let turn = take_lines(&steps[..end], buffer, state.count, chunk, from, out);
     Progress {
         state: State {
             stage: Stage::Frames,
             count: turn.count,
             steps: state.steps,
-            long: state.long,
         },
         at: turn.at,
         put: turn.put,
@@ -171,7 +155,6 @@ pub fn start() -> State
         stage: Stage::Recipe,
         count: 0,
         steps: 0,
-        long: false,
     }
 }
 
@@ -235,8 +218,7 @@ pub fn finish(state: State, buffer: &[u8], steps: &mut [u64], out: &mut [u8]) ->
                 return 0;
             }
             let end = 3 * state.steps;
-            let digits = number_digits(state.long);
-            kept_line(&steps[..end], digits, buffer, n, out)
+            kept_line(&steps[..end], buffer, n, out)
         }
         Stage::Done => 0,
     }

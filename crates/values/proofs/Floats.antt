@@ -1,5 +1,5 @@
 -- A pattern that is not a NaN, carried as a float of the language: it is one that is not a NaN, and has the same bits. Assumes nothing.
-use mathlib.Core.Path.{◌≡◌, refl, sym, ap, ◌∙◌}
+use mathlib.Core.Path.{◌≡◌, sym, ap, ◌∙◌}
 use mathlib.Core.Bool.{Bool, true, false, not}
 use mathlib.Core.Logic.{◌⊎◌, ⊎_elim}
 use Prim.Native.Nat.{ℕ, ◌^◌, ◌<◌}
@@ -24,18 +24,6 @@ module _ (x : ℕ) (n : is_nan binary64 x ≡ false) where
 
   pub same_bits : x < 2 ^ 64 → Ieee.to_bits Ieee.binary64 (Ieee.of_bits Ieee.binary64 x) ≡ x
   same_bits h = to_bits-of_bits Ieee.binary64 x (omega arith) float_real
-
--- the bits of a float that the language holds and that is not a NaN are no NaN's
-pub bits_number : (v : Ieee.Float) → Ieee.fits Ieee.binary64 v ≡ true → T (not (Ieee.is_nan v)) → is_nan binary64 (Ieee.to_bits Ieee.binary64 v) ≡ false
-bits_number v h r =
-    sym (nan_same (Ieee.to_bits Ieee.binary64 v))
-    ∙ nan_bits_is Ieee.binary64 (Ieee.to_bits Ieee.binary64 v)
-    ∙ ap Ieee.is_nan (of_bits-to_bits Ieee.binary64 v (rw h tt))
-    ∙ not_true (Ieee.is_nan v) r
-  where
-    not_true : (b : Bool) → T (not b) → b ≡ false
-    not_true true x = absurd x
-    not_true false x = refl
 
 -- a float that the language holds, of the pattern y
 module _ (v : Ieee.Float) (y : ℕ) (h : Ieee.fits Ieee.binary64 v ≡ true) (e : Ieee.to_bits Ieee.binary64 v ≡ y) (n : is_nan binary64 y ≡ false) where

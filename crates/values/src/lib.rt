@@ -13,13 +13,6 @@ pub enum Value {
     Whole(i64),
 }
 
-// A value as it is kept beside others: the number of its kind, 1 double and 2 whole, and its 64 bits.
-#[derive(Drop)]
-pub struct Held {
-    pub kind: u8,
-    pub word: u64,
-}
-
 // What a step comes to: a value, or a refusal's number.
 #[derive(Drop)]
 pub enum Outcome {

@@ -1,12 +1,12 @@
 // Values and their words.
 ghost use Rattle.std.specs.Prelude.{◌≡◌};
-ghost use Rattle.recipe.specs.Table.{kind_number};
 ghost use Rattle.semantics.specs.Value.{whole, as_double, as_whole, word_of, kind_of};
 ghost use Rattle.values.specs.Carried.{real};
-ghost use Rattle.values.specs.Seen.{Real, seen, datum_of, RealWord};
+ghost use Rattle.values.specs.Seen.{Real, seen};
 
-use super::{Held, Value};
+use super::Value;
 use float_format::Binary64;
+use recipe::Kind;
 use twos_complement::{signed, word};
 
 impl Value {
@@ -39,32 +39,23 @@ impl Value {
         }
     }
 
-    // As it is kept beside others: the number of its kind, and its 64 bits.
-    pub fn held(self) -> Held
+    // Its 64 bits.
+    pub fn word(self) -> u64
         requires { Real self }
-        ensures { (datum_of result.kind result.word ≡ seen self) × (result.kind ≡ kind_number (kind_of (seen self))) × (result.word ≡ word_of (seen self))
-            × RealWord result.kind result.word }
+        ensures { result ≡ word_of (seen self) }
     {
         match self {
-            Value::Double(x) => Held {
-                kind: 1,
-                word: f64::to_bits(x),
-            },
-            Value::Whole(z) => Held {
-                kind: 2,
-                word: word(z),
-            },
+            Value::Double(x) => f64::to_bits(x),
+            Value::Whole(z) => word(z),
         }
     }
 
-    // The value that is kept as a kind's number and a word, which is no NaN's where the kind is a double.
-    pub fn of(kind: u8, w: u64) -> Value
-        requires { RealWord kind w }
-        ensures { (seen result ≡ datum_of kind w) × Real result }
+    pub fn kind(self) -> Kind
+        ensures { result ≡ kind_of (seen self) }
     {
-        if kind == 2 {
-            return Value::Whole(signed(w));
+        match self {
+            Value::Double(_) => Kind::Double,
+            Value::Whole(_) => Kind::Whole,
         }
-        Value::Double(f64::from_bits(w))
     }
 }

@@ -1,136 +1,86 @@
 //! Times the built program `run` beside the plain one and beside the command `estrenwind run`, on a
-//! million frames of a recipe of 20 steps; on the same recipe in the long form; and on recipes of 128
-//! and of 512 steps, with as many frames as make the same number of steps.
+//! million frames of a recipe of 20 steps.
 //!
 //!     program_speed BUILT PLAIN COMMAND FOLDER
 //!
-//! Where ESTRENWIND_BEFORE names a folder, the program `run` of another build in it is timed too, on
-//! the recipe in the short form: what a change makes of the time of recipes that it isn't about.
-//!
-//! The frames are written to files in FOLDER. All take turns, each turn begun by another, so that what
-//! else the machine does falls on all; times are medians and least times of the turns, ratios medians
-//! of the turns' ratios and ratios of the least times. Fails where the outputs differ or a ratio is
-//! missed by both: see `MOST_OF_PLAIN` and those after it.
+//! The frames are written to files in FOLDER. The three take turns, and times and ratios are medians
+//! of the turns, so that what else the machine does falls on all. Fails where the outputs differ, the
+//! built program takes more than 1.5 times as long as the plain one, or the command more than 1.3
+//! times as long as the program.
 
-use estrenwind_tests::recipes::forms::rewritten;
-use estrenwind_tests::speed::{
-    least, median, recipe_of_128, write_frames_of, Ratio, FRAMES, RECIPE,
-};
+use estrenwind_tests::speed::{median, write_frames, FRAMES, RECIPE};
 use std::env;
 use std::fs::{self, File};
-use std::io::{self, Write};
+use std::io::Write;
 use std::path::{Path, PathBuf};
 use std::process::{exit, Command, Stdio};
 use std::time::Instant;
 
 const TURNS: usize = 15;
-
-/// What the program may take beside the plain one, and the command beside the program.
 const MOST_OF_PLAIN: f64 = 1.5;
 const MOST_OF_PROGRAM: f64 = 1.3;
-/// What it may take on the recipe in the long form beside the short one, for a step of 512 beside one
-/// of 128, and beside another build on the short form.
-const MOST_OF_SHORT: f64 = 1.1;
-const MOST_OF_A_STEP: f64 = 1.0;
-const MOST_OF_BEFORE: f64 = 1.03;
 
-/// Frames of the recipe of 128 steps, four for each of the one of 512.
-const FRAMES_OF_128: u64 = 160_000;
-
-/// A recipe, its frames, and both with an empty line between them.
+/// The recipe, the frames, and both with an empty line between them.
 struct Files {
     recipe: PathBuf,
     frames: PathBuf,
     input: PathBuf,
-    /// Frames, and bytes of their answers.
-    count: u64,
 }
 
 impl Files {
-    /// Writes files of this name. The frames have the inputs of `RECIPE` so many times.
-    fn write(folder: &Path, name: &str, text: &[u8], count: u64, times: u64) -> io::Result<Files> {
-        let [recipe, frames, input] =
-            ["recipe", "frames", "input"].map(|part| folder.join(format!("{name}.{part}")));
-        fs::write(&recipe, text)?;
-        write_frames_of(File::create(&frames)?, count, times)?;
+    fn write(folder: &Path) -> std::io::Result<Files> {
+        let [recipe, frames, input] = ["recipe", "frames", "input"].map(|name| folder.join(name));
+        fs::write(&recipe, RECIPE)?;
+        write_frames(File::create(&frames)?)?;
         let mut whole = File::create(&input)?;
-        whole.write_all(&[text, b"\n"].concat())?;
-        io::copy(&mut File::open(&frames)?, &mut whole)?;
+        writeln!(whole, "{RECIPE}")?;
+        std::io::copy(&mut File::open(&frames)?, &mut whole)?;
         Ok(Files {
             recipe,
             frames,
             input,
-            count,
         })
     }
 
-    fn remove(&self) -> io::Result<()> {
+    fn remove(&self) -> std::io::Result<()> {
         [&self.recipe, &self.frames, &self.input]
             .into_iter()
             .try_for_each(fs::remove_file)
     }
 }
 
-/// A program or the command, started on files.
+/// One of the three, started on the files.
 struct Timed<'a> {
-    what: &'static str,
-    program: PathBuf,
+    program: &'a str,
     is_command: bool,
-    files: &'a Files,
-    times: Vec<f64>,
 }
 
-impl<'a> Timed<'a> {
-    fn program(what: &'static str, program: impl Into<PathBuf>, files: &'a Files) -> Timed<'a> {
-        Timed {
-            what,
-            program: program.into(),
-            is_command: false,
-            files,
-            times: vec![],
-        }
-    }
-
-    fn command(what: &'static str, program: impl Into<PathBuf>, files: &'a Files) -> Timed<'a> {
-        Timed {
-            is_command: true,
-            ..Timed::program(what, program, files)
-        }
-    }
-
-    fn started(&self) -> Command {
-        let mut command = Command::new(&self.program);
+impl Timed<'_> {
+    fn started(&self, files: &Files) -> Command {
+        let mut command = Command::new(self.program);
         if self.is_command {
             command.args(["run", "--quiet"]);
-            command.args([&self.files.recipe, &self.files.frames]);
+            command.args([&files.recipe, &files.frames]);
         } else {
-            command.stdin(File::open(&self.files.input).expect("it was written"));
+            command.stdin(File::open(&files.input).expect("it was written"));
         }
         command.stderr(Stdio::null());
         command
     }
 
-    fn time(&mut self) {
+    fn seconds(&self, files: &Files) -> f64 {
         let start = Instant::now();
-        let status = self.started().stdout(Stdio::null()).status();
-        let status = status.unwrap_or_else(|error| panic!("{}: {error}", self.program.display()));
-        assert!(status.success(), "{}: {status}", self.program.display());
-        self.times.push(start.elapsed().as_secs_f64());
+        let status = self.started(files).stdout(Stdio::null()).status();
+        let status = status.unwrap_or_else(|error| panic!("{}: {error}", self.program));
+        assert!(status.success(), "{}: {status}", self.program);
+        start.elapsed().as_secs_f64()
     }
 
-    fn output(&self) -> Vec<u8> {
-        let output = self.started().output();
+    fn output(&self, files: &Files) -> Vec<u8> {
+        let output = self.started(files).output();
         output
-            .unwrap_or_else(|error| panic!("{}: {error}", self.program.display()))
+            .unwrap_or_else(|error| panic!("{}: {error}", self.program))
             .stdout
-    }
-
-    /// Stops where a frame is refused.
-    fn answers(&self) -> Vec<u8> {
-        let answers = self.output();
-        assert_eq!(answers.len() as u64, 19 * self.files.count, "{}", self.what);
-        assert!(answers.chunks(19).all(|line| line.starts_with(b"0")));
-        answers
     }
 }
 
@@ -140,78 +90,40 @@ fn main() {
         eprintln!("program_speed BUILT PLAIN COMMAND FOLDER");
         exit(2);
     };
-    let written = |name: &str, text: &[u8], count, times| {
-        let files = Files::write(Path::new(folder), name, text, count, times);
-        files.unwrap_or_else(|error| panic!("{folder}: {error}"))
-    };
-    let of_128 = recipe_of_128();
-    let short = written("short", RECIPE.as_bytes(), FRAMES, 1);
-    let long = written("long", &rewritten(RECIPE.as_bytes()), FRAMES, 1);
-    let steps_128 = written("128", &of_128.run_call().text, FRAMES_OF_128, 1);
-    let text = of_128.repeated(4).run_call().text;
-    let steps_512 = written("512", &text, FRAMES_OF_128 / 4, 4);
-
-    let mut timed = vec![
-        Timed::program("run", built, &short),
-        Timed::program("a plain program", plain, &short),
-        Timed::command("estrenwind run", command, &short),
-        Timed::program("run, long form", built, &long),
-        Timed::program("run, 128 steps", built, &steps_128),
-        Timed::program("run, 512 steps", built, &steps_512),
-    ];
-    if let Some(folder) = env::var_os("ESTRENWIND_BEFORE") {
-        let before = PathBuf::from(folder).join("run");
-        timed.push(Timed::program("run before", before, &short));
+    let files = Files::write(Path::new(folder)).unwrap_or_else(|error| panic!("{folder}: {error}"));
+    let timed =
+        [(built, false), (plain, false), (command, true)].map(|(program, is_command)| Timed {
+            program,
+            is_command,
+        });
+    let answers = timed[0].output(&files);
+    for other in &timed[1..] {
+        assert!(
+            answers == other.output(&files),
+            "the answers of {} differ",
+            other.program
+        );
     }
-
-    // The recipe's two forms have the same answers, whoever gives them.
-    let answers = timed[0].answers();
-    for other in timed.iter().filter(|other| other.files.count == FRAMES) {
-        assert!(answers == other.answers(), "{}: others", other.what);
-    }
-    for of_many in [&steps_128, &steps_512] {
-        let [built, plain] = [built, plain].map(|path| Timed::program("", path, of_many).answers());
-        assert!(built == plain, "the answers to {:?}", of_many.recipe);
-    }
-
+    assert_eq!(answers.len() as u64, 19 * FRAMES);
+    assert!(!answers.starts_with(b"ff"));
+    let mut times = [vec![], vec![], vec![]];
     for turn in 0..TURNS {
-        for place in 0..timed.len() {
-            let next = (turn + place) % timed.len();
-            timed[next].time();
+        for place in 0..3 {
+            let next = (turn + place) % 3;
+            times[next].push(timed[next].seconds(&files));
         }
     }
-    for files in [&short, &long, &steps_128, &steps_512] {
-        files.remove().expect("they were written");
-    }
-
-    println!("seconds, {FRAMES} frames of 20 steps where nothing else is said:");
-    for timed in &timed {
-        let middle = median(&mut timed.times.clone());
-        let least = least(&timed.times);
-        println!("  {:16} {middle:.3}, at least {least:.3}", timed.what);
-    }
-    let ratio = |x: usize, y: usize| Ratio::of(&timed[x].times, &timed[y].times);
-    let mut ratios = vec![
-        ("run beside a plain program", ratio(0, 1), MOST_OF_PLAIN),
-        ("estrenwind run beside run", ratio(2, 0), MOST_OF_PROGRAM),
-        ("the long form beside the short", ratio(3, 0), MOST_OF_SHORT),
-        // As many steps are run in all.
-        (
-            "a step of 512 beside one of 128",
-            ratio(5, 4),
-            MOST_OF_A_STEP,
-        ),
-    ];
-    if timed.len() > 6 {
-        ratios.push(("run beside run before", ratio(0, 6), MOST_OF_BEFORE));
-    }
-    let mut missed = false;
-    for (what, ratio, most) in ratios {
-        println!("{what}: {ratio} (at most {most})");
-        missed |= ratio.is_above(most);
-    }
-    if missed {
-        eprintln!("a ratio is missed");
+    files.remove().expect("they were written");
+    let ratio = |x: usize, y: usize| {
+        let mut ratios: Vec<f64> = times[x].iter().zip(&times[y]).map(|(x, y)| x / y).collect();
+        median(&mut ratios)
+    };
+    let (of_plain, of_program) = (ratio(0, 1), ratio(2, 0));
+    let [ours, theirs, the_command] = times.map(|mut times| median(&mut times));
+    println!("run, {FRAMES} frames of 20 steps: {ours:.2} s, a plain program {theirs:.2} s, {of_plain:.2} times");
+    println!("estrenwind run, the same: {the_command:.2} s, {of_program:.2} times run");
+    if of_plain > MOST_OF_PLAIN || of_program > MOST_OF_PROGRAM {
+        eprintln!("more than {MOST_OF_PLAIN} or {MOST_OF_PROGRAM} times");
         exit(1);
     }
 }

@@ -1,14 +1,13 @@
 //! Writes what programs in other languages, or on other processors, are tried on.
 //!
 //!     recipe_cases calls    calls of a run, each two 32-bit lengths (little-endian), a text and a frame
-//!     recipe_cases input    an input for the program run: the longest recipe, whose sheet passes, and frames
+//!     recipe_cases input    an input for the program run: a recipe whose sheet passes, and frames
 
 use estrenwind_tests::patterns::Random;
 use estrenwind_tests::recipes::faults::{damaged, REFUSALS, SHEET_REFUSALS};
 use estrenwind_tests::recipes::growing::{grow_sheet, Plan};
 use estrenwind_tests::recipes::reasons::{FACTS, PLACES};
 use estrenwind_tests::recipes::{frame, RunCall, SheetCall};
-use estrenwind_tests::reference::recipe::Form;
 use std::io::{self, BufWriter, Write};
 
 const CALLS: usize = 20_000;
@@ -57,9 +56,8 @@ fn write_calls(output: &mut impl Write) -> io::Result<()> {
 fn write_input(output: &mut impl Write) -> io::Result<()> {
     let mut random = Random::new(92);
     let plan = Plan {
-        form: Form::Long,
-        steps: 512,
-        inputs: (0..16).map(|input| 31 * input).collect(),
+        steps: 128,
+        inputs: (0..16).map(|input| 3 * input).collect(),
         chain: false,
         ordinary: false,
         refusing: vec![],

@@ -6,19 +6,15 @@
 //! so do the lengths; each number is a median of its turns, so that what else the machine does
 //! falls on all. `--profile speed` leaves out the overflow checks that the tests have. Then
 //! explanations beside sheets, on the same recipes, and on ones that are turned down at their last
-//! step; runs of sums and products beside runs of fmin on the same operands; and runs, sheets and
-//! explanations in the long form beside the short one, and on 512 steps beside 128. Fails where a sheet, an
-//! explanation or such a run misses a target. `recipe_speed sums` times the sums and products alone,
-//! `recipe_speed forms` the two forms.
+//! step; and runs of sums and products beside runs of fmin on the same operands. Fails where a sheet, an
+//! explanation or such a run misses a target. `recipe_speed sums` times these runs alone.
 
 use estrenwind_tests::patterns::Random;
 use estrenwind_tests::recipes::growing::{grow, grow_sheet, Plan};
 use estrenwind_tests::recipes::reasons::{Place, FACTS};
 use estrenwind_tests::recipes::values::ordinary_range;
 use estrenwind_tests::recipes::{Draft, Line, RunCall, SheetCall};
-use estrenwind_tests::reference::recipe::form::{LONGEST_SHEET, MOST_STEPS};
-use estrenwind_tests::reference::recipe::{Form, Kind};
-use estrenwind_tests::speed::{least, median, Ratio};
+use estrenwind_tests::reference::recipe::{sheet, text, Kind};
 use estrenwind_tests::{interpreter, library};
 use std::array;
 use std::env;
@@ -29,6 +25,9 @@ use std::time::Instant;
 const RECIPES: usize = 64;
 const TURNS: usize = 401;
 const STEPS: [usize; 4] = [16, 32, 64, 128];
+
+/// Bytes of the sheet of 128 steps.
+const LONGEST_SHEET: usize = sheet::LINE * text::MOST_STEPS;
 
 /// A sheet of 128 steps may take so many times the plain one's time, and a step of it so many times
 /// a step of a sheet of 16: what it takes grows with the steps and not faster.
@@ -41,13 +40,9 @@ const MOST_OF_A_SHEET: f64 = 1.2;
 /// A run of 20 sums, differences and products may take so many times the time of one of 20 fmin.
 const MOST_OF_FMIN: f64 = 1.4;
 
-/// A step of 512 may take so many times the time of one of 128.
-const MOST_OF_A_STEP: f64 = 1.0;
-
 /// Recipes of so many steps, one in eight an input.
 fn plan(steps: usize, ordinary: bool) -> Plan {
     Plan {
-        form: Form::Short,
         steps,
         inputs: (0..steps).step_by(8).take(16).collect(),
         chain: false,
@@ -63,6 +58,11 @@ fn time<C>(answer: &mut impl FnMut(&C), calls: &[C]) -> f64 {
         answer(call);
     }
     start.elapsed().as_nanos() as f64 / calls.len() as f64
+}
+
+fn median(mut times: Vec<f64>) -> f64 {
+    times.sort_by(f64::total_cmp);
+    times[times.len() / 2]
 }
 
 /// Nanoseconds a call of the library's and of the interpreter's.
@@ -103,7 +103,7 @@ fn race<C, const N: usize>(
             }
         }
     }
-    let [ours, theirs] = [ours, theirs].map(|times| times.map(|mut times| median(&mut times)));
+    let [ours, theirs] = [ours, theirs].map(|times| times.map(median));
     array::from_fn(|length| Times {
         steps: steps[length],
         library: ours[length],
@@ -155,7 +155,7 @@ fn turned_down_calls() -> [Vec<SheetCall>; 2] {
     [Place::First, Place::Last].map(|place| {
         let facts = FACTS.iter();
         let mut call = |facts| {
-            let (mut draft, step) = random.turned_down_in(Form::Short, facts, place, false);
+            let (mut draft, step) = random.turned_down(facts, place, false);
             draft.lines.truncate(step + 1);
             draft.sheet_call()
         };
@@ -234,7 +234,7 @@ impl SumsAndFmins {
         let words: Vec<u64> = (0..INPUTS).map(|_| random.ordinary(Kind::Double)).collect();
         let [sums, fmins] = [sums, fmins].map(|lines| {
             let words = words.clone();
-            Draft::new(lines, words).run_call()
+            Draft { lines, words }.run_call()
         });
         SumsAndFmins { sums, fmins }
     }
@@ -269,91 +269,6 @@ fn race_sums() -> Times {
     times
 }
 
-/// Memory that is lent to every call.
-struct Lent {
-    words: [u64; MOST_STEPS],
-    sheet: [u8; LONGEST_SHEET],
-}
-
-/// The library's run, sheet and explanation.
-const CALLS: [(&str, fn(&RunCall, &mut Lent)); 3] = [
-    ("a run", |call, lent| {
-        let (text, frame) = (black_box(&call.text), black_box(&call.frame));
-        black_box(library::run(text, frame, &mut lent.words));
-    }),
-    ("a sheet", |call, lent| {
-        black_box(library::sheet(black_box(&call.text), &mut lent.sheet));
-    }),
-    ("an explanation", |call, _| {
-        black_box(library::explain(black_box(&call.text)));
-    }),
-];
-
-/// Whether steps of 512 take no longer than they may: recipes of 128 four times in one, which has the same
-/// work in each step. Recipes of 20 steps and of 128 in both forms are timed beside them.
-fn are_long_ones_in_time() -> bool {
-    let mut random = Random::new(45);
-    let mut drafts = |steps: usize| -> Vec<Draft> {
-        let inputs = (0..steps).step_by(steps.div_ceil(4)).collect();
-        let plan = Plan {
-            inputs,
-            ..plan(steps, true)
-        };
-        let draft = |_| grow_sheet(&mut random, &plan).0;
-        (0..RECIPES).map(draft).collect()
-    };
-    let (of_20, of_128) = (drafts(20), drafts(128));
-    let long = |draft: &Draft| draft.in_form(Form::Long);
-    let calls = |drafts: &[Draft]| drafts.iter().map(Draft::run_call).collect::<Vec<_>>();
-    let timed: [Vec<RunCall>; 5] = [
-        calls(&of_20),
-        calls(&of_20.iter().map(long).collect::<Vec<_>>()),
-        calls(&of_128),
-        calls(&of_128.iter().map(long).collect::<Vec<_>>()),
-        calls(
-            &of_128
-                .iter()
-                .map(|draft| long(draft).repeated(4))
-                .collect::<Vec<_>>(),
-        ),
-    ];
-    let mut lent = Lent {
-        words: [0; MOST_STEPS],
-        sheet: [0; LONGEST_SHEET],
-    };
-    for call in timed.iter().flatten() {
-        let answer = library::run(&call.text, &call.frame, &mut lent.words);
-        assert_eq!(answer.refusal, 0, "{call}");
-        let answer = library::sheet(&call.text, &mut lent.sheet);
-        assert_eq!(answer.refusal, 0, "{call}");
-    }
-    let mut missed = false;
-    for (what, answer) in CALLS {
-        let mut times = [const { Vec::new() }; 5];
-        for turn in 0..TURNS {
-            for place in 0..timed.len() {
-                let next = (turn + place) % timed.len();
-                let mut call = |call: &RunCall| answer(call, &mut lent);
-                times[next].push(time(&mut call, &timed[next]));
-            }
-        }
-        let names = ["20", "20 long", "128", "128 long", "512 long"];
-        for (name, times) in names.iter().zip(&times) {
-            let (middle, least) = (median(&mut times.clone()), least(times));
-            println!("{what} of {name} lines: {middle:.0} ns, at least {least:.0}");
-        }
-        let [short, long, short_128, long_128, long_512] = &times;
-        let ratio = Ratio::of(long, short);
-        println!("{what} of 20 lines, long beside short: {ratio}");
-        let ratio = Ratio::of(long_128, short_128);
-        println!("{what} of 128 lines, long beside short: {ratio}");
-        let ratio = Ratio::of(long_512, long_128).per_step(512, 128);
-        println!("{what}, a step of 512 beside one of 128: {ratio} (at most {MOST_OF_A_STEP})");
-        missed |= ratio.is_above(MOST_OF_A_STEP);
-    }
-    !missed
-}
-
 /// Whether sums and products take no longer than they may, beside fmin.
 fn are_summed_in_time() -> bool {
     let times = race_sums();
@@ -371,10 +286,7 @@ fn print(title: &str, times: &[Times; 4]) {
     println!("           library                        plain interpreter              library /");
     println!("steps   ns a call   a step   a byte    ns a call   a step   a byte   interpreter");
     for times in times {
-        let (a_step, a_byte) = (
-            times.steps as f64,
-            (Form::Short.line() * times.steps) as f64,
-        );
+        let (a_step, a_byte) = (times.steps as f64, (text::LINE * times.steps) as f64);
         println!(
             "{:5} {:11.0} {:8.1} {:8.2} {:12.0} {:8.1} {:8.2} {:13.2}",
             times.steps,
@@ -402,10 +314,8 @@ fn is_explained_in_time(what: &str, times: &Times) -> bool {
 }
 
 fn main() -> ExitCode {
-    match env::args().nth(1).as_deref() {
-        Some("sums") => return told(!are_summed_in_time()),
-        Some("forms") => return told(!are_long_ones_in_time()),
-        _ => {}
+    if env::args().nth(1).as_deref() == Some("sums") {
+        return told(!are_summed_in_time());
     }
     let mut missed = false;
     for (numbers, ordinary) in [
@@ -433,7 +343,6 @@ fn main() -> ExitCode {
         missed |= !is_explained_in_time("turned down at the last, an explanation", &times);
     }
     missed |= !are_summed_in_time();
-    missed |= !are_long_ones_in_time();
     told(missed)
 }
 

@@ -3,12 +3,10 @@
 //! input.
 
 use estrenwind_tests::interpreter::{Recipe, Refused};
-use estrenwind_tests::reference::recipe::form::{place_digits, LONGEST_TEXT};
-use estrenwind_tests::reference::recipe::Form;
-use std::io::{self, BufRead, BufReader, BufWriter, Read, Write};
+use std::io::{self, BufRead, BufReader, BufWriter, ErrorKind, Read, Write};
 
 /// The longest recipe's bytes, and the line feed of the empty line after it.
-const SEARCHED: usize = LONGEST_TEXT + 1;
+const SEARCHED: usize = 4_993;
 const LONGEST_FRAME: usize = 256;
 const BUFFER: usize = 1 << 16;
 
@@ -20,11 +18,9 @@ fn main() {
 }
 
 fn answer(input: &mut impl BufRead, output: &mut impl Write) -> io::Result<()> {
-    let text = recipe(input)?;
-    let digits = place_digits(Form::told(&text));
-    let mut recipe = match Recipe::read(&text) {
+    let recipe = match recipe(input)? {
         Ok(recipe) => recipe,
-        Err(refused) => return refuse(output, digits, refused),
+        Err(refused) => return refuse(output, refused),
     };
     let mut line = Vec::with_capacity(LONGEST_FRAME + 1);
     while next_line(input, &mut line)? {
@@ -35,15 +31,14 @@ fn answer(input: &mut impl BufRead, output: &mut impl Write) -> io::Result<()> {
         };
         match answer {
             Ok((kind, word)) => write_answer(output, kind as u8, word)?,
-            Err(refused) => refuse(output, digits, refused)?,
+            Err(refused) => refuse(output, refused)?,
         }
     }
     Ok(())
 }
 
-/// What stands before the empty line, if there is one early enough. Where there is none and the input
-/// goes on, a byte more than any recipe has: that is refused with 10.
-fn recipe(input: &mut impl BufRead) -> io::Result<Vec<u8>> {
+/// Reads up to the empty line, if there is one early enough.
+fn recipe(input: &mut impl BufRead) -> io::Result<Result<Recipe, Refused>> {
     let mut text = Vec::with_capacity(SEARCHED);
     loop {
         let line = text.len();
@@ -51,10 +46,23 @@ fn recipe(input: &mut impl BufRead) -> io::Result<Vec<u8>> {
         input.by_ref().take(room).read_until(b'\n', &mut text)?;
         if text[line..] == *b"\n" {
             text.pop();
-            return Ok(text);
+            break;
+        }
+        if text.len() == SEARCHED && !at_end(input)? {
+            return Ok(Err((10, 0)));
         }
         if text.len() == SEARCHED || text.last() != Some(&b'\n') || text.len() == line {
-            return Ok(text);
+            break;
+        }
+    }
+    Ok(Recipe::read(&text))
+}
+
+fn at_end(input: &mut impl BufRead) -> io::Result<bool> {
+    loop {
+        match input.fill_buf() {
+            Err(error) if error.kind() == ErrorKind::Interrupted => {}
+            buffer => return Ok(buffer?.is_empty()),
         }
     }
 }
@@ -76,8 +84,8 @@ fn next_line(input: &mut impl BufRead, line: &mut Vec<u8>) -> io::Result<bool> {
     Ok(true)
 }
 
-fn refuse(output: &mut impl Write, digits: usize, (number, place): Refused) -> io::Result<()> {
-    writeln!(output, "ff{number:02x}{place:0digits$x}")
+fn refuse(output: &mut impl Write, (number, place): Refused) -> io::Result<()> {
+    writeln!(output, "ff{number:02x}{place:02x}")
 }
 
 fn write_answer(output: &mut impl Write, kind: u8, word: u64) -> io::Result<()> {

@@ -1,6 +1,6 @@
 //! The run: frame to values.
 
-use super::text::{hexadecimal, is_nan, parse, Step};
+use super::text::{hexadecimal, is_nan, parse, Step, MOST_STEPS};
 use super::Kind::{self, Double, Whole};
 use super::Refused;
 use crate::answer::Answer;
@@ -26,35 +26,32 @@ pub fn run(text: &[u8], frame: &[u8], words: &mut [u64]) -> RunAnswer {
 pub struct Recipe {
     steps: Vec<Step>,
     inputs: Vec<usize>,
-    /// Each step's word over the last frame, as far as that was worked.
-    values: Vec<u64>,
 }
 
 impl Recipe {
     pub fn read(text: &[u8]) -> Result<Recipe, Refused> {
-        let (_, steps) = parse(text)?;
+        let steps = parse(text)?;
         let inputs = (0..steps.len())
             .filter(|&place| steps[place].opcode <= 0x02)
             .collect();
-        let values = vec![0; steps.len()];
-        Ok(Recipe {
-            steps,
-            inputs,
-            values,
-        })
+        Ok(Recipe { steps, inputs })
     }
 
     /// The last step's kind and word.
-    pub fn run(&mut self, frame: &[u8]) -> Result<(Kind, u64), Refused> {
-        self.read_frame(frame)?;
-        evaluate(&self.steps, &mut self.values)?;
+    pub fn run(&self, frame: &[u8]) -> Result<(Kind, u64), Refused> {
         let last = self.steps.len() - 1;
-        Ok((self.steps[last].kind, self.values[last]))
+        Ok((self.steps[last].kind, self.values(frame)?[last]))
+    }
+
+    fn values(&self, frame: &[u8]) -> Result<[u64; MOST_STEPS], Refused> {
+        let mut values = [0; MOST_STEPS];
+        self.read_frame(frame, &mut values)?;
+        evaluate(&self.steps, &mut values)?;
+        Ok(values)
     }
 
     /// Puts each input's word at its step.
-    fn read_frame(&mut self, frame: &[u8]) -> Result<(), Refused> {
-        let values = &mut self.values;
+    fn read_frame(&self, frame: &[u8], values: &mut [u64; MOST_STEPS]) -> Result<(), Refused> {
         if frame.len() != 16 * self.inputs.len() {
             return Err((30, 0));
         }
@@ -79,14 +76,14 @@ impl Recipe {
 }
 
 fn completed(text: &[u8], frame: &[u8], words: &mut [u64]) -> Result<(Kind, u64), Refused> {
-    let mut recipe = Recipe::read(text)?;
+    let recipe = Recipe::read(text)?;
     let steps = recipe.steps.len();
     if words.len() < steps {
         return Err((40, 0));
     }
-    let answer = recipe.run(frame)?;
-    words[..steps].copy_from_slice(&recipe.values);
-    Ok(answer)
+    let values = recipe.values(frame)?;
+    words[..steps].copy_from_slice(&values[..steps]);
+    Ok((recipe.steps[steps - 1].kind, values[steps - 1]))
 }
 
 /// The function's word, or the number of the step's refusal.
@@ -111,7 +108,7 @@ fn computed(a: u64, b: u64, operation: fn(f64, f64) -> f64) -> Result<u64, u64> 
 }
 
 /// Works the steps in order; the inputs' values stand at their places.
-fn evaluate(steps: &[Step], values: &mut [u64]) -> Result<(), Refused> {
+fn evaluate(steps: &[Step], values: &mut [u64; MOST_STEPS]) -> Result<(), Refused> {
     for (place, step) in steps.iter().enumerate() {
         let a = || values[step.a];
         let b = || values[step.b];

@@ -4,6 +4,8 @@ use super::text::{parse, Step};
 use super::Refused;
 use crate::library::SheetAnswer;
 
+const LINE: usize = 39;
+
 /// `ew_sheet` again.
 pub fn sheet(text: &[u8], sheet: &mut [u8]) -> SheetAnswer {
     let (refusal, place, steps) = match passed(text, sheet) {
@@ -18,20 +20,19 @@ pub fn sheet(text: &[u8], sheet: &mut [u8]) -> SheetAnswer {
 }
 
 fn passed(text: &[u8], sheet: &mut [u8]) -> Result<usize, Refused> {
-    let (form, steps) = parse(text)?;
-    if sheet.len() < form.sheet_line() * steps.len() {
+    let steps = parse(text)?;
+    if sheet.len() < LINE * steps.len() {
         return Err((40, 0));
     }
     let ranges = ranges(&steps)?;
-    let lines = sheet.chunks_exact_mut(form.sheet_line());
+    let lines = sheet.chunks_exact_mut(LINE);
     for (place, (line, (step, range))) in lines.zip(steps.iter().zip(&ranges)).enumerate() {
-        let (number, line) = line.split_at_mut(form.digits());
-        write_digits(number, place as u64);
-        write_digits(&mut line[..2], step.kind as u64);
-        write_digits(&mut line[2..4], range.integral as u64);
-        write_digits(&mut line[4..20], range.low);
-        write_digits(&mut line[20..36], range.high);
-        line[36] = b'\n';
+        write_digits(&mut line[..2], place as u64);
+        write_digits(&mut line[2..4], step.kind as u64);
+        write_digits(&mut line[4..6], range.integral as u64);
+        write_digits(&mut line[6..22], range.low);
+        write_digits(&mut line[22..38], range.high);
+        line[38] = b'\n';
     }
     Ok(steps.len())
 }
@@ -392,7 +393,7 @@ mod tests {
             let inputs = inputs.map(|ends| Line::input(Kind::Double, ends));
             let lines = inputs.chain(constants).collect();
             let words = vec![];
-            check(&Draft::new(lines, words).sheet_call());
+            check(&Draft { lines, words }.sheet_call());
         }
     }
 

@@ -1,10 +1,11 @@
-//! Text of either form to steps.
+//! Text to steps.
 
 use super::Kind::{self, Double, Whole};
 use super::Refused;
-use crate::reference::recipe::Form;
 use crate::reference::{Class, BINARY64};
 
+pub const LINE: usize = 39;
+pub const MOST_STEPS: usize = 128;
 const MOST_INPUTS: usize = 16;
 
 pub struct Step {
@@ -16,17 +17,14 @@ pub struct Step {
     pub q: u64,
 }
 
-/// The form of a text and its steps.
-pub fn parse(text: &[u8]) -> Result<(Form, Vec<Step>), Refused> {
-    let form = Form::told(text).ok_or((10, 0))?;
-    let lines = text.chunks_exact(form.line());
-    if !lines.remainder().is_empty() || lines.len() > form.most_steps() {
+pub fn parse(text: &[u8]) -> Result<Vec<Step>, Refused> {
+    if text.is_empty() || !text.len().is_multiple_of(LINE) || text.len() > LINE * MOST_STEPS {
         return Err((10, 0));
     }
-    let mut steps = Vec::with_capacity(lines.len());
+    let mut steps = Vec::with_capacity(text.len() / LINE);
     let mut inputs = 0;
-    for (place, line) in lines.enumerate() {
-        let step = parse_line(form, line, &steps).map_err(|number| (number, place))?;
+    for (place, line) in text.chunks_exact(LINE).enumerate() {
+        let step = parse_line(line, &steps).map_err(|number| (number, place))?;
         if step.opcode <= 0x02 {
             inputs += 1;
             if inputs > MOST_INPUTS {
@@ -35,7 +33,7 @@ pub fn parse(text: &[u8]) -> Result<(Form, Vec<Step>), Refused> {
         }
         steps.push(step);
     }
-    Ok((form, steps))
+    Ok(steps)
 }
 
 fn digit(byte: u8) -> Option<u64> {
@@ -52,21 +50,15 @@ pub fn hexadecimal(digits: &[u8]) -> Option<u64> {
         .try_fold(0, |number, &byte| Some(number << 4 | digit(byte)?))
 }
 
-/// Fields from the right: the line feed, Q, P, then B, A and the opcode, whose places are the form's.
-fn fields(form: Form, line: &[u8]) -> Option<(u8, u64, u64, u64, u64)> {
-    let (end, line) = line.split_last()?;
-    let (line, q) = line.split_at(line.len() - 16);
-    let (line, p) = line.split_at(line.len() - 16);
-    let (line, b) = line.split_at(line.len() - form.digits());
-    let (opcode, a) = line.split_at(line.len() - form.digits());
-    let opcode = hexadecimal(opcode)?;
-    let (a, b) = (hexadecimal(a)?, hexadecimal(b)?);
-    let (p, q) = (hexadecimal(p)?, hexadecimal(q)?);
-    (*end == b'\n').then_some((opcode as u8, a, b, p, q))
+fn fields(line: &[u8]) -> Option<(u8, u64, u64, u64, u64)> {
+    let opcode = hexadecimal(&line[..2])?;
+    let (a, b) = (hexadecimal(&line[2..4])?, hexadecimal(&line[4..6])?);
+    let (p, q) = (hexadecimal(&line[6..22])?, hexadecimal(&line[22..38])?);
+    (line[38] == b'\n').then_some((opcode as u8, a, b, p, q))
 }
 
-fn parse_line(form: Form, line: &[u8], earlier: &[Step]) -> Result<Step, u64> {
-    let (opcode, a, b, p, q) = fields(form, line).ok_or(11u64)?;
+fn parse_line(line: &[u8], earlier: &[Step]) -> Result<Step, u64> {
+    let (opcode, a, b, p, q) = fields(line).ok_or(11u64)?;
     // The kind of the value, and those of A and B where they are used.
     let (kind, of_a, of_b) = match opcode {
         0x01 | 0x03 => (Double, None, None),

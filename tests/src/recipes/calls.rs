@@ -3,12 +3,11 @@
 //! `Call`. A run of frame lines, which is one too, is in `lines`.
 
 use super::faults::{EXPLAIN_REFUSALS, REFUSALS, SHEET_REFUSALS};
-use super::forms::rewritten;
 use super::growing::{grow, grow_sheet, Grow};
 use super::Draft;
 use crate::library::{self, ExplainAnswer, RunAnswer, SheetAnswer};
 use crate::reference::recipe::{
-    explain, run, sheet, Explanation, Form, Refusal, StepRange, StepValue, Way,
+    explain, run, sheet, Explanation, Refusal, StepRange, StepValue, Way,
 };
 use std::fmt;
 
@@ -41,12 +40,6 @@ pub trait Call: Clone + fmt::Debug + fmt::Display + PartialEq + Send + Sync {
     /// Units of memory.
     fn lent(&self) -> usize;
     fn lend(&mut self, lent: usize);
-    /// The same call of a short text's steps in the long form.
-    fn rewritten(&self) -> Self {
-        let mut long = self.clone();
-        *long.text_mut() = rewritten(self.text());
-        long
-    }
 
     /// What stands at a place of the memory before a call: nothing that a call would write.
     fn pattern(place: usize) -> Self::Unit;
@@ -57,7 +50,7 @@ pub trait Call: Clone + fmt::Debug + fmt::Display + PartialEq + Send + Sync {
     /// The answer that tells of it.
     fn answer(worked: &Self::Worked) -> Self::Answer;
     /// What it leaves in the memory, from its start.
-    fn written(&self, worked: &Self::Worked) -> Vec<Self::Unit>;
+    fn written(worked: &Self::Worked) -> Vec<Self::Unit>;
     /// The refusal in an answer, number 0 where there is none.
     fn refusal(answer: Self::Answer) -> Refusal;
     /// The code of the reason in an answer, 0 where there is none.
@@ -134,7 +127,7 @@ impl Call for RunCall {
         RunAnswer::from(*values.last().expect("a recipe has a step"))
     }
 
-    fn written(&self, values: &Vec<StepValue>) -> Vec<u64> {
+    fn written(values: &Vec<StepValue>) -> Vec<u64> {
         values.iter().map(|value| value.word).collect()
     }
 
@@ -184,7 +177,7 @@ impl Call for SheetCall {
     const GROW: Grow = grow_sheet;
     const BEFORE: usize = 5;
     const BEYOND: usize = 40;
-    const MOST_SPARE: u64 = 2 * Form::Long.sheet_line() as u64;
+    const MOST_SPARE: u64 = 2 * sheet::LINE as u64;
 
     fn of(draft: &Draft) -> SheetCall {
         draft.sheet_call()
@@ -210,18 +203,6 @@ impl Call for SheetCall {
         self.lent = lent;
     }
 
-    /// With as much memory to spare; where there is too little, as little.
-    fn rewritten(&self) -> SheetCall {
-        let text = rewritten(&self.text);
-        let [needed, longer] = [(Form::Short, &self.text), (Form::Long, &text)]
-            .map(|(form, text)| form.sheet_line() * (text.len() / form.line()));
-        let lent = match self.lent.checked_sub(needed) {
-            Some(spare) => longer + spare,
-            None => self.lent,
-        };
-        SheetCall { text, lent }
-    }
-
     fn pattern(place: usize) -> u8 {
         0x80 | (place as u8).wrapping_mul(0x4d)
     }
@@ -238,9 +219,8 @@ impl Call for SheetCall {
         SheetAnswer::passed(ranges.len())
     }
 
-    fn written(&self, ranges: &Vec<StepRange>) -> Vec<u8> {
-        let form = Form::told(&self.text).expect("the text was read");
-        sheet::bytes(form, ranges)
+    fn written(ranges: &Vec<StepRange>) -> Vec<u8> {
+        sheet::bytes(ranges)
     }
 
     fn refusal(answer: SheetAnswer) -> Refusal {
@@ -339,7 +319,7 @@ impl Call for ExplainCall {
         explanation.map_or(ExplainAnswer::PASSED, ExplainAnswer::from)
     }
 
-    fn written(&self, _: &Option<Explanation>) -> Vec<u8> {
+    fn written(_: &Option<Explanation>) -> Vec<u8> {
         Vec::new()
     }
 

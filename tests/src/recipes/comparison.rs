@@ -2,7 +2,7 @@
 //! lent memory and around it.
 
 use super::Call;
-use crate::reference::recipe::{Form, Way};
+use crate::reference::recipe::Way;
 
 /// An answer, and what then stands in the lent memory, before it and after it.
 #[derive(Debug, PartialEq)]
@@ -29,7 +29,7 @@ impl<C: Call> Outcome<C> {
         Outcome::made(call, |memory| match call.reference(way) {
             Err(refusal) => C::Answer::from(refusal),
             Ok(worked) => {
-                let written = call.written(&worked);
+                let written = C::written(&worked);
                 memory[..written.len()].copy_from_slice(&written);
                 C::answer(&worked)
             }
@@ -58,19 +58,6 @@ pub fn check<C: Call>(way: Way, call: &C) -> Outcome<C> {
     let outcome = Outcome::library(call);
     if let Some(difference) = outcome.difference(&Outcome::expected(way, call), call) {
         panic!("{difference}");
-    }
-    outcome
-}
-
-/// The library's outcome of a call; stops too where it is a short text's, and the same call in the long
-/// form has another answer. Not for frame lines, whose answers tell lengths.
-#[track_caller]
-pub fn check_in_both_forms<C: Call>(way: Way, call: &C) -> Outcome<C> {
-    let outcome = check(way, call);
-    let is_short = Form::told(call.text()) == Some(Form::Short);
-    if is_short && call.text().len() <= Form::Short.longest_text() {
-        let long = check(way, &call.rewritten());
-        assert_eq!(long.answer, outcome.answer, "in the long form\n{call}");
     }
     outcome
 }

@@ -6,8 +6,8 @@
 use super::growing::Grow;
 use super::{Call, Draft};
 use crate::patterns::Random;
-use crate::reference::recipe::text::MOST_INPUTS;
-use crate::reference::recipe::{Form, Kind, Operation, Refusal, Source, Way, OPERATIONS};
+use crate::reference::recipe::text::{LINE, MOST_INPUTS, MOST_STEPS};
+use crate::reference::recipe::{Kind, Operation, Refusal, Source, Way, OPERATIONS};
 use std::cmp::Ordering;
 
 /// Every refusal of a run.
@@ -31,7 +31,7 @@ pub fn damaged<C: Call>(random: &mut Random, faults: &[u64]) -> (C, Vec<Refusal>
     for &fault in faults {
         let beside = last_place(&refusals);
         let place = match (fault, call.frame_mut()) {
-            (11, _) => wrong_byte(random, draft.form, call.text_mut(), beside),
+            (11, _) => wrong_byte(random, call.text_mut(), beside),
             (40, _) => {
                 call.lend(random.less_than(needed));
                 Some(0)
@@ -43,10 +43,7 @@ pub fn damaged<C: Call>(random: &mut Random, faults: &[u64]) -> (C, Vec<Refusal>
         refusals.extend(place.map(|place| Refusal::at(fault, place)));
     }
     if faults.contains(&10) {
-        match random.below(3) {
-            0 => untold(random, draft.form, call.text_mut()),
-            _ => wrong_length(random, draft.form, call.text_mut()),
-        }
+        wrong_length(random, call.text_mut());
         refusals.push(Refusal::whole_call(10));
     }
     if !faults.contains(&40) && random.below(2) == 0 {
@@ -120,61 +117,27 @@ fn lines_where(draft: &Draft, fits: impl Fn(usize, &'static Operation) -> bool) 
     (0..draft.lines.len()).filter(fits).collect()
 }
 
-fn wrong_length(random: &mut Random, form: Form, text: &mut Vec<u8>) {
-    let line = form.line();
+fn wrong_length(random: &mut Random, text: &mut Vec<u8>) {
     match random.below(6) {
         0 => text.clear(),
         1 => {
             let rest = random.below(text.len() as u64) as usize;
-            text.truncate(rest / line * line + 1 + rest % (line - 1));
+            text.truncate(rest / LINE * LINE + 1 + rest % (LINE - 1));
         }
         2 => text.push(b'\n'),
         3 => {
-            let more = 1 + random.below(line as u64 - 1) as usize;
+            let more = 1 + random.below(LINE as u64 - 1) as usize;
             text.extend_from_within(..more);
         }
         4 => drop(text.pop()),
         _ => {
             // A line too many, or up to as many again.
-            let last = text[text.len() - line..].to_vec();
-            let most = form.most_steps();
-            let more = [1, 1 + random.below(most as u64) as usize];
-            let lines = most + more[random.below(2) as usize];
-            while text.len() < lines * line {
-                text.extend_from_slice(&last);
+            let line = text[text.len() - LINE..].to_vec();
+            let more = [1, 1 + random.below(MOST_STEPS as u64) as usize];
+            let lines = MOST_STEPS + more[random.below(2) as usize];
+            while text.len() < lines * LINE {
+                text.extend_from_slice(&line);
             }
-        }
-    }
-}
-
-/// The first line feed elsewhere or missing, the length as it was or not: at no form's place.
-fn untold(random: &mut Random, form: Form, text: &mut Vec<u8>) {
-    let feed = form.line() - 1;
-    loop {
-        let mut other = text.clone();
-        match random.below(6) {
-            // Missing in the first line, or in all of them.
-            0 => other[feed] = b'0',
-            1 => other.iter_mut().for_each(|byte| {
-                if *byte == b'\n' {
-                    *byte = b'0';
-                }
-            }),
-            // Before its place, beside the one that is there or in its stead.
-            2 => other[random.below(feed as u64) as usize] = b'\n',
-            3 => {
-                other[feed] = b'0';
-                other[random.below(feed as u64) as usize] = b'\n';
-            }
-            4 => drop(other.remove(random.below(feed as u64) as usize)),
-            _ => {
-                let more = 1 + random.below(6) as usize;
-                other.splice(feed..feed, vec![b'0'; more]);
-            }
-        }
-        if Form::told(&other).is_none() {
-            *text = other;
-            return;
         }
     }
 }
@@ -193,33 +156,20 @@ fn no_digit(random: &mut Random) -> u8 {
     }
 }
 
-/// A byte that is no digit, or none at all for a line feed. The first line keeps its own as the text's
-/// first, which tells the form.
-fn wrong_byte(
-    random: &mut Random,
-    form: Form,
-    text: &mut [u8],
-    beside: Option<usize>,
-) -> Option<usize> {
-    let end = form.line() - 1;
-    let places: Vec<usize> = (0..text.len() / form.line()).collect();
+fn wrong_byte(random: &mut Random, text: &mut [u8], beside: Option<usize>) -> Option<usize> {
+    let places: Vec<usize> = (0..text.len() / LINE).collect();
     let place = chosen(random, &places, beside)?;
     let column = match random.below(4) {
-        0 if place > 0 => end,
-        _ => random.below(end as u64) as usize,
+        0 => LINE - 1,
+        _ => random.below(LINE as u64) as usize,
     };
-    let byte = if column == end {
+    let byte = if column == LINE - 1 {
         let ends = [b'\r', b' ', b'0', 0, b'\n' + 1, 0x8a];
         ends[random.below(ends.len() as u64) as usize]
     } else {
-        loop {
-            let byte = no_digit(random);
-            if place > 0 || byte != b'\n' {
-                break byte;
-            }
-        }
+        no_digit(random)
     };
-    text[place * form.line() + column] = byte;
+    text[place * LINE + column] = byte;
     Some(place)
 }
 
@@ -245,14 +195,13 @@ fn unused_field(random: &mut Random, draft: &mut Draft, beside: Option<usize>) -
     let places = lines_where(draft, |_, _| true);
     let place = chosen(random, &places, beside)?;
     let operation = draft.lines[place].operation()?;
-    let bits = 4 * draft.form.digits() as u64;
     let line = &mut draft.lines[place];
-    let (operand, word) = (1 << random.below(bits), 1 << random.below(64));
+    let (byte, word) = (1 << random.below(8), 1 << random.below(64));
     // Every step leaves at least one of the four unused.
     loop {
         match random.below(4) {
-            0 if !operation.uses_a() => line.a |= operand,
-            1 if !operation.uses_b() => line.b |= operand,
+            0 if !operation.uses_a() => line.a |= byte,
+            1 if !operation.uses_b() => line.b |= byte,
             2 if !operation.uses_p() => line.p |= word,
             3 if !operation.uses_q() => line.q |= word,
             _ => continue,
@@ -269,18 +218,16 @@ fn operand_not_below(
     let places = lines_where(draft, |_, operation| operation.uses_a());
     let place = chosen(random, &places, beside)?;
     let last = draft.lines.len() as u64 - 1;
-    let beyond = 1 << (4 * draft.form.digits());
-    let above = match random.below(5) {
+    let above = match random.below(4) {
         0 | 1 => place as u64,
         2 => last.max(place as u64),
-        3 => beyond - 1,
-        _ => place as u64 + random.below(beyond - place as u64),
+        _ => place as u64 + random.below(256 - place as u64),
     };
     let line = &mut draft.lines[place];
     if line.operation()?.uses_b() && random.below(2) == 0 {
-        line.b = above as u16;
+        line.b = above as u8;
     } else {
-        line.a = above as u16;
+        line.a = above as u8;
     }
     Some(place)
 }
@@ -319,7 +266,7 @@ fn operand_of_wrong_kind(
             .collect();
         line.opcode = *wrong.get(random.below(wrong.len().max(1) as u64) as usize)?;
     } else {
-        let other = others[random.below(others.len() as u64) as usize] as u16;
+        let other = others[random.below(others.len() as u64) as usize] as u8;
         *[&mut line.a, &mut line.b][i] = other;
     }
     Some(place)

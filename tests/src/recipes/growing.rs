@@ -6,13 +6,12 @@ use super::values::ordinary_range;
 use super::{Draft, Line};
 use crate::patterns::Random;
 use crate::reference::recipe::operations::Function;
-use crate::reference::recipe::text::MOST_INPUTS;
-use crate::reference::recipe::{Form, Kind, Operation, Range, Source, Way, OPERATIONS};
+use crate::reference::recipe::text::{MOST_INPUTS, MOST_STEPS};
+use crate::reference::recipe::{Kind, Operation, Range, Source, Way, OPERATIONS};
 
 /// What a recipe is to be like.
 #[derive(Clone, Debug)]
 pub struct Plan {
-    pub form: Form,
     pub steps: usize,
     /// The steps that are inputs.
     pub inputs: Vec<usize>,
@@ -46,19 +45,12 @@ impl Random {
         places
     }
 
-    /// A plan for a valid recipe of either form, of 1 to 128 or 512 steps with up to 16 inputs. Ones of
-    /// few steps are likelier, and more so in the long form.
+    /// A plan for a valid recipe of 1 to 128 steps with up to 16 inputs. Short ones are likelier.
     pub fn plan(&mut self) -> Plan {
-        let form = self.form();
-        let of_many = match form {
-            Form::Short => 4,
-            Form::Long => 2,
-        };
-        let many = self.below(64);
-        let steps = match self.below(14) {
-            _ if many < of_many => form.most_steps(),
-            _ if many < 2 * of_many => 1 + self.below(form.most_steps() as u64) as usize,
-            0..=5 => 1 + self.below(8) as usize,
+        let steps = match self.below(16) {
+            0 => MOST_STEPS,
+            1 => 1 + self.below(MOST_STEPS as u64) as usize,
+            2..=7 => 1 + self.below(8) as usize,
             _ => 1 + self.below(40) as usize,
         };
         let most = steps.min(MOST_INPUTS) as u64;
@@ -68,7 +60,6 @@ impl Random {
             _ => self.below(most.min(5) + 1),
         };
         Plan {
-            form,
             steps,
             inputs: self.places(inputs as usize, steps),
             chain: self.below(3) == 0,
@@ -81,20 +72,15 @@ impl Random {
     /// some step, or the last.
     pub fn plan_with_too_many_inputs(&mut self) -> Plan {
         let least = MOST_INPUTS + 1;
-        let form = self.form();
-        let steps = match (form, self.below(16)) {
-            (Form::Short, 0..=3) | (Form::Long, 0) => form.most_steps(),
-            (Form::Long, 1) => {
-                least + self.below((form.most_steps() - MOST_INPUTS) as u64) as usize
-            }
-            _ => least + self.below((Form::Short.most_steps() - MOST_INPUTS) as u64) as usize,
+        let steps = match self.below(4) {
+            0 => MOST_STEPS,
+            _ => least + self.below((MOST_STEPS - MOST_INPUTS) as u64) as usize,
         };
         let inputs = match self.below(2) {
             0 => least,
             _ => least + self.below((steps - MOST_INPUTS).min(6) as u64) as usize,
         };
         Plan {
-            form,
             steps,
             inputs: self.places(inputs, steps),
             chain: false,
@@ -238,21 +224,6 @@ struct Growing<'a, K> {
     ordinary: bool,
     draft: Draft,
     known: Vec<(Kind, K)>,
-    /// The steps of each kind, and those of them that are not narrow, in order: a recipe of 512 steps
-    /// would take long if they were looked for again at each.
-    doubles: Places,
-    wholes: Places,
-}
-
-#[derive(Default)]
-struct Places {
-    all: Vec<usize>,
-    wide: Vec<usize>,
-}
-
-/// Those of the places, which are in order, that are not before this one.
-fn not_before(from: usize, places: &[usize]) -> &[usize] {
-    &places[places.partition_point(|&place| place < from)..]
 }
 
 /// A recipe with a frame, from a plan, and those of the planned refusals that came to be.
@@ -289,13 +260,8 @@ fn grow_along<K: Known>(
     let mut growing = Growing::<K> {
         random,
         ordinary: plan.ordinary,
-        draft: Draft {
-            form: plan.form,
-            ..Draft::default()
-        },
+        draft: Draft::default(),
         known: Vec::new(),
-        doubles: Places::default(),
-        wholes: Places::default(),
     };
     let mut refusing = Vec::new();
     for place in 0..plan.steps {
@@ -344,15 +310,6 @@ impl<K: Known> Growing<'_, K> {
     }
 
     fn add(&mut self, line: Line, kind: Kind, known: K) {
-        let place = self.known.len();
-        let places = match kind {
-            Kind::Double => &mut self.doubles,
-            Kind::Whole => &mut self.wholes,
-        };
-        places.all.push(place);
-        if !known.is_narrow(kind) {
-            places.wide.push(place);
-        }
         self.draft.lines.push(line);
         self.known.push((kind, known));
     }
@@ -407,17 +364,17 @@ impl<K: Known> Growing<'_, K> {
     fn operand(&mut self, kind: Kind) -> Option<usize> {
         let recent = self.known.len().saturating_sub(4);
         let from = if self.random.below(2) == 0 { recent } else { 0 };
-        let places = match kind {
-            Kind::Double => &self.doubles,
-            Kind::Whole => &self.wholes,
-        };
-        let mut fit = not_before(from, &places.all);
-        let wide = not_before(from, &places.wide);
+        let mut fit: Vec<usize> = (from..self.known.len())
+            .filter(|&place| self.known[place].0 == kind)
+            .collect();
+        let wide: Vec<usize> = (fit.iter().copied())
+            .filter(|&place| !self.known[place].1.is_narrow(kind))
+            .collect();
         if !wide.is_empty() && wide.len() < fit.len() && self.random.below(4) != 0 {
             fit = wide;
         }
         match fit.len() {
-            0 => places.all.last().copied(),
+            0 => (0..from).rev().find(|&place| self.known[place].0 == kind),
             count => Some(fit[self.random.below(count as u64) as usize]),
         }
     }
@@ -483,41 +440,26 @@ mod tests {
 
     #[test]
     fn grown_recipes_run_to_their_end() {
-        for form in Form::BOTH {
-            grown_recipes_of(form);
-        }
-    }
-
-    fn grown_recipes_of(form: Form) {
         let mut random = Random::new(12);
         let (mut opcodes, mut lengths) = (BTreeSet::new(), BTreeSet::new());
         let (mut inputs, mut input_places) = (BTreeSet::new(), BTreeSet::new());
-        let mut operands = BTreeSet::new();
-        for _ in 0..12_000 {
+        for _ in 0..5_000 {
             let plan = random.plan();
-            if plan.form != form {
-                continue;
-            }
             let (draft, _) = grow(&mut random, &plan);
             let call = draft.run_call();
             let answer = run_of(Way::Short, &call.text, &call.frame, call.lent);
             assert_eq!(answer.map(|values| values.len()), Ok(plan.steps), "{call}");
             assert_eq!(draft.inputs(), plan.inputs);
             opcodes.extend(draft.lines.iter().map(|line| line.opcode));
-            operands.extend(draft.lines.iter().flat_map(|line| [line.a, line.b]));
             lengths.insert(plan.steps);
             inputs.insert(plan.inputs.len());
             input_places.extend(plan.inputs);
         }
         assert_eq!(opcodes.len(), OPERATIONS.len());
-        let most = form.most_steps();
-        assert_eq!((lengths.first(), lengths.last()), (Some(&1), Some(&most)));
+        assert_eq!((lengths.first(), lengths.last()), (Some(&1), Some(&128)));
         assert!(lengths.len() > 100, "{lengths:?}");
         assert_eq!(inputs.len(), 17);
-        // In the long form few recipes have as many steps as there are.
-        assert!(input_places.len() > most / 2, "{}", input_places.len());
-        assert!(operands.len() > most * 9 / 10, "{}", operands.len());
-        assert!(operands.last() >= Some(&(most as u16 - 5)), "{operands:?}");
+        assert_eq!(input_places.len(), 128);
     }
 
     /// How many steps stand one on another under each step, of those that are counted.
@@ -525,7 +467,7 @@ mod tests {
         let mut depths: Vec<usize> = Vec::new();
         for (step, line) in draft.lines.iter().enumerate() {
             let operation = line.operation().unwrap();
-            let below = |used: bool, place: u16| if used { depths[place as usize] + 1 } else { 0 };
+            let below = |used: bool, place: u8| if used { depths[place as usize] + 1 } else { 0 };
             let depth = below(operation.uses_a(), line.a).max(below(operation.uses_b(), line.b));
             depths.push(if counted(step) { depth } else { 0 });
         }
@@ -533,7 +475,6 @@ mod tests {
     }
 
     const CHAIN: Plan = Plan {
-        form: Form::Short,
         steps: 128,
         inputs: vec![],
         chain: true,
@@ -661,8 +602,7 @@ mod tests {
             }
             for places in places {
                 assert!(places.len() > 40, "{number}: {places:?}");
-                assert_eq!((places.first(), places.last()), (Some(&1), Some(&511)));
-                assert!(places.contains(&127), "{number}: {places:?}");
+                assert_eq!((places.first(), places.last()), (Some(&1), Some(&127)));
             }
         }
     }

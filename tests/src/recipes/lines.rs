@@ -79,7 +79,7 @@ impl Call for LinesCall {
         LinesAnswer::from(answers)
     }
 
-    fn written(&self, answers: &Answers) -> Vec<u8> {
+    fn written(answers: &Answers) -> Vec<u8> {
         answers.bytes.clone()
     }
 

@@ -5,14 +5,12 @@
 //! inputs in them, and `faults` damages them: one fault or two, each at the first, some or the last
 //! place. `lines` makes frame lines, whole and damaged, and `reasons` recipes that are turned down
 //! for chosen reasons. `shown` reads a sheet's lines back. `comparison` holds what the library makes
-//! of a call beside what the reference does, and `walks` is what all calls are tried on. All of them
-//! make recipes of both forms, and `forms` rewrites a short text as a long one. `zeros` holds the rule
-//! of W-202 for the zeros in fmin and fmax beside document 01's.
+//! of a call beside what the reference does, and `walks` is what all calls are tried on. `zeros` holds
+//! the rule of W-202 for the zeros in fmin and fmax beside document 01's.
 
 pub mod calls;
 pub mod comparison;
 pub mod faults;
-pub mod forms;
 pub mod growing;
 pub mod limits;
 pub mod lines;
@@ -25,14 +23,14 @@ pub mod zeros;
 pub use calls::{Call, ExplainCall, RunCall, SheetCall};
 pub use lines::LinesCall;
 
-use crate::reference::recipe::{Form, Kind, Operation};
+use crate::reference::recipe::{sheet, text, Kind, Operation};
 
 /// The fields of a line.
 #[derive(Clone, Copy, Debug, Default, PartialEq, Eq)]
 pub struct Line {
     pub opcode: u8,
-    pub a: u16,
-    pub b: u16,
+    pub a: u8,
+    pub b: u8,
     pub p: u64,
     pub q: u64,
 }
@@ -72,8 +70,8 @@ impl Line {
     pub fn step(opcode: u8, a: usize, b: usize) -> Line {
         Line {
             opcode,
-            a: a.try_into().expect("a step's number"),
-            b: b.try_into().expect("a step's number"),
+            a: a as u8,
+            b: b as u8,
             ..Line::default()
         }
     }
@@ -91,11 +89,11 @@ impl Line {
         self.operation().map(|operation| operation.kind)
     }
 
-    fn write(&self, form: Form, text: &mut Vec<u8>) {
+    fn write(&self, text: &mut Vec<u8>) {
         for (digits, field) in [
             (2, self.opcode as u64),
-            (form.digits(), self.a as u64),
-            (form.digits(), self.b as u64),
+            (2, self.a as u64),
+            (2, self.b as u64),
             (16, self.p),
             (16, self.q),
         ] {
@@ -105,8 +103,7 @@ impl Line {
     }
 }
 
-fn write_digits(text: &mut Vec<u8>, digits: usize, field: u64) {
-    assert!(digits == 16 || field >> (4 * digits) == 0, "{field:x}");
+fn write_digits(text: &mut Vec<u8>, digits: u32, field: u64) {
     for place in (0..digits).rev() {
         let digit = field >> (4 * place) & 15;
         text.push(b"0123456789abcdef"[digit as usize]);
@@ -133,29 +130,14 @@ impl Ends for [i64; 2] {
     }
 }
 
-/// A recipe's lines, the form to write them in, and a word for each of its inputs.
+/// A recipe's lines and a word for each of its inputs.
 #[derive(Clone, Debug, Default)]
 pub struct Draft {
-    pub form: Form,
     pub lines: Vec<Line>,
     pub words: Vec<u64>,
 }
 
 impl Draft {
-    /// In the short form.
-    pub fn new(lines: Vec<Line>, words: Vec<u64>) -> Draft {
-        let form = Form::Short;
-        Draft { form, lines, words }
-    }
-
-    /// The same lines and words in this form.
-    pub fn in_form(&self, form: Form) -> Draft {
-        Draft {
-            form,
-            ..self.clone()
-        }
-    }
-
     /// The steps that are inputs.
     pub fn inputs(&self) -> Vec<usize> {
         let is_input = |&place: &usize| self.lines[place].is_input();
@@ -163,9 +145,9 @@ impl Draft {
     }
 
     fn text(&self) -> Vec<u8> {
-        let mut text = Vec::with_capacity(self.form.line() * self.lines.len());
+        let mut text = Vec::with_capacity(text::LINE * self.lines.len());
         for line in &self.lines {
-            line.write(self.form, &mut text);
+            line.write(&mut text);
         }
         text
     }
@@ -183,7 +165,7 @@ impl Draft {
     pub fn sheet_call(&self) -> SheetCall {
         SheetCall {
             text: self.text(),
-            lent: self.form.sheet_line() * self.lines.len(),
+            lent: sheet::LINE * self.lines.len(),
         }
     }
 
@@ -208,14 +190,14 @@ mod tests {
 
     #[test]
     fn lines_are_written_as_document_01_prints_them() {
-        let draft = Draft::new(
-            vec![
+        let draft = Draft {
+            lines: vec![
                 Line::input(Kind::Double, [0xc004000000000000, 0x401d000000000000]),
                 Line::step(0x10, 0, 0),
                 Line::step(0x18, 1, 0),
             ],
-            vec![0xbfe0000000000000],
-        );
+            words: vec![0xbfe0000000000000],
+        };
         let call = draft.run_call();
         let text = "010000c004000000000000401d000000000000\n\
                     10000000000000000000000000000000000000\n\
@@ -226,14 +208,5 @@ mod tests {
         let call = draft.sheet_call();
         assert_eq!((&call.text[..], call.lent), (text.as_bytes(), 3 * 39));
         assert_eq!(draft.explain_call().text, text.as_bytes());
-
-        let long = draft.in_form(Form::Long);
-        let text = "0100000000c004000000000000401d000000000000\n\
-                    100000000000000000000000000000000000000000\n\
-                    180001000000000000000000000000000000000000\n";
-        assert_eq!(long.run_call().text, text.as_bytes());
-        assert_eq!(long.run_call().frame, b"bfe0000000000000");
-        let call = long.sheet_call();
-        assert_eq!((&call.text[..], call.lent), (text.as_bytes(), 3 * 41));
     }
 }

@@ -5,7 +5,8 @@ use super::growing::{grow_sheet_around, Plan};
 use super::{Draft, Line};
 use crate::patterns::Random;
 use crate::reference::recipe::explain::reasons;
-use crate::reference::recipe::{Form, Kind, Operation, Range, Way};
+use crate::reference::recipe::text::MOST_STEPS;
+use crate::reference::recipe::{Kind, Operation, Range, Way};
 
 /// The codes of facts that can be true at once of a step with this opcode.
 #[derive(Clone, Copy, Debug, PartialEq, Eq, PartialOrd, Ord)]
@@ -144,11 +145,11 @@ pub const FACTS: [Facts; 100] = [
 /// Where the refused step stands in its recipe.
 #[derive(Clone, Copy, Debug, PartialEq, Eq)]
 pub enum Place {
-    /// Right after its operands, with which a recipe of as many steps as its form has begins.
+    /// Right after its operands, with which a recipe of 128 steps begins.
     First,
     /// Somewhere in a recipe of up to 60 steps.
     Some,
-    /// Last of as many steps as its form has.
+    /// Last of 128.
     Last,
 }
 
@@ -192,28 +193,8 @@ impl Random {
     }
 
     /// A recipe with a step of which these facts are true and no other, and that step. Those before
-    /// it are not refused. A and B name the same step if `same`. One recipe in eight is long, and half
-    /// of those `Place::Some`: the longest take their time.
+    /// it are not refused. A and B name the same step if `same`.
     pub fn turned_down(&mut self, facts: &Facts, place: Place, same: bool) -> (Draft, usize) {
-        let form = match place {
-            Place::Some => self.form(),
-            Place::First | Place::Last => match self.below(8) {
-                0 => Form::Long,
-                _ => Form::Short,
-            },
-        };
-        self.turned_down_in(form, facts, place, same)
-    }
-
-    /// The same in a form.
-    pub fn turned_down_in(
-        &mut self,
-        form: Form,
-        facts: &Facts,
-        place: Place,
-        same: bool,
-    ) -> (Draft, usize) {
-        let most_steps = form.most_steps();
         let operation = Operation::of_opcode(facts.opcode).expect("an opcode");
         let ranges = loop {
             let [a, b] = self.operands_for(operation, facts, same);
@@ -225,12 +206,12 @@ impl Random {
         let kinds = operation.source.operands();
         let operands = if same { 1 } else { kinds.len() };
         let (step, steps) = match place {
-            Place::First => (operands, most_steps),
+            Place::First => (operands, MOST_STEPS),
             Place::Some => {
                 let step = operands + self.below(30) as usize;
                 (step, step + 1 + self.below(30) as usize)
             }
-            Place::Last => (most_steps - 1, most_steps),
+            Place::Last => (MOST_STEPS - 1, MOST_STEPS),
         };
         let a = self.below(step as u64) as usize;
         let mut lines = vec![(a, self.line(kinds[0], ranges[0]))];
@@ -246,7 +227,6 @@ impl Random {
         lines.push((step, Line::step(facts.opcode, a, b)));
         let inputs = (0..self.below(6)).map(|_| self.below(steps as u64) as usize);
         let plan = Plan {
-            form,
             steps,
             inputs: inputs.collect(),
             chain: self.below(3) == 0,

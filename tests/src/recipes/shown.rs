@@ -1,6 +1,6 @@
 //! Lines of a sheet read back, as whoever gets a sheet would.
 
-use crate::reference::recipe::{Form, Kind};
+use crate::reference::recipe::Kind;
 use std::str;
 
 /// What a line of a sheet shows of its step.
@@ -19,28 +19,23 @@ impl Shown {
     }
 }
 
-/// The lines of the sheet of a text in this form: step 2 or 4 digits, kind 2, mark 2, low 16, high 16
-/// and a line feed each. Stops where it isn't one.
-pub fn read(form: Form, sheet: &[u8]) -> Vec<Shown> {
+/// The lines of a sheet: step 2 digits, kind 2, mark 2, low 16, high 16 and a line feed each. Stops
+/// where it isn't one.
+pub fn read(sheet: &[u8]) -> Vec<Shown> {
     let sheet = str::from_utf8(sheet).expect("a sheet is text");
     let lines = sheet.split_inclusive('\n').enumerate();
-    let line =
-        |(step, line)| shown(form, step, line).unwrap_or_else(|| panic!("{line:?}\n{sheet}"));
+    let line = |(step, line)| shown(step, line).unwrap_or_else(|| panic!("{line:?}\n{sheet}"));
     lines.map(line).collect()
 }
 
 /// What the line of a step shows; none where it is no such line.
-fn shown(form: Form, step: usize, line: &str) -> Option<Shown> {
+fn shown(step: usize, line: &str) -> Option<Shown> {
     let digits = line.strip_suffix('\n')?;
     let is_digit = |byte| matches!(byte, b'0'..=b'9' | b'a'..=b'f');
-    let of_step = match form {
-        Form::Short => 2,
-        Form::Long => 4,
-    };
-    if digits.len() != of_step + 36 || !digits.bytes().all(is_digit) {
+    if digits.len() != 38 || !digits.bytes().all(is_digit) {
         return None;
     }
-    let (place, digits) = digits.split_at(of_step);
+    let (place, digits) = digits.split_at(2);
     let (kind, digits) = digits.split_at(2);
     let (mark, digits) = digits.split_at(2);
     let number = |digits| u64::from_str_radix(digits, 16).ok();
@@ -87,10 +82,7 @@ mod tests {
             low: -3i64 as u64,
             high: 7,
         };
-        assert_eq!(read(Form::Short, lines), [double, whole]);
-        let lines = b"00000100c004000000000000401d000000000000\n\
-                      00010201fffffffffffffffd0000000000000007\n";
-        assert_eq!(read(Form::Long, lines), [double, whole]);
+        assert_eq!(read(lines), [double, whole]);
         assert_eq!(double.ends(), [0xc004000000000000, 0x401d000000000000]);
     }
 
@@ -98,12 +90,8 @@ mod tests {
     #[test]
     fn nothing_else_is_read() {
         let line = "000100c004000000000000401d000000000000\n";
-        assert!(shown(Form::Short, 0, line).is_some());
-        assert!(shown(Form::Long, 0, line).is_none());
-        assert!(shown(Form::Long, 0, &format!("00{line}")).is_some());
-        assert!(shown(Form::Short, 0, &format!("00{line}")).is_none());
-        assert!(shown(Form::Short, 1, line).is_none());
-        assert!(shown(Form::Long, 0x100, &format!("00{line}")).is_none());
+        assert!(shown(0, line).is_some());
+        assert!(shown(1, line).is_none());
         for (from, to) in [
             ("000100", "000000"),
             ("000100", "000300"),
@@ -120,7 +108,7 @@ mod tests {
         ] {
             let other = line.replace(from, to);
             assert_ne!(other, line);
-            assert!(shown(Form::Short, 0, &other).is_none(), "{other:?}");
+            assert!(shown(0, &other).is_none(), "{other:?}");
         }
     }
 

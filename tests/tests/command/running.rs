@@ -7,10 +7,9 @@ use crate::soon::soon;
 use crate::{assert_same, built, command, counted, counted_answers, run_file, run_input, IDENTITY};
 use estrenwind_tests::patterns::Random;
 use estrenwind_tests::programs::run_output;
-use estrenwind_tests::recipes::forms::rewritten;
 use estrenwind_tests::recipes::frame;
 use estrenwind_tests::recipes::lines::Recipe;
-use estrenwind_tests::reference::recipe::{Form, Kind, Step, Way};
+use estrenwind_tests::reference::recipe::{Kind, Step, Way};
 use std::collections::BTreeMap;
 use std::fs;
 use std::path::Path;
@@ -81,66 +80,6 @@ fn the_examples() {
         }
     }
     assert!(count >= 12, "{count} examples");
-}
-
-/// The same in the long form: the answers are the same, and places have 4 digits.
-#[test]
-fn the_long_form() {
-    let long = String::from_utf8(rewritten(EXAMPLE.as_bytes())).unwrap();
-    prints(&long, FRAME, &format!("{ANSWER}\n"));
-    prints(
-        &long,
-        format!("{FRAME}\n\n401e000000000000\nBFE0000000000000\n{FRAME}"),
-        &format!("{ANSWER}\nff1e0000\nff200000\nff1f0000\n{ANSWER}\n"),
-    );
-    prints(&long, "0".repeat(300), "ff1e0000\n");
-    let constant = String::from_utf8(rewritten(CONSTANT.as_bytes())).unwrap();
-    prints(&constant, "\n0\n", "020000000000000005\nff1e0000\n");
-}
-
-/// The most steps of each form, and one more. Steps that are refused stand at places up to 01ff.
-#[test]
-fn as_many_steps_as_there_can_be() {
-    let input = "010000c0100000000000004010000000000000\n";
-    // fmod of the step before by the input, which may be zero; before it only negations.
-    let negate = |k: usize| format!("17{:04x}0000{:032}\n", k - 1, 0);
-    let first = String::from_utf8(rewritten(input.as_bytes())).unwrap();
-    let fmod = |k: usize| format!("22{:04x}0000{:032}\n", k - 1, 0);
-    let zero = "0000000000000000\n";
-    for count in [2, 129, 256, 257, 511, 512] {
-        let between: String = (1..count - 1).map(negate).collect();
-        let recipe = format!("{first}{between}{}", fmod(count - 1));
-        let frames = format!("{zero}{FRAME}\n{zero}");
-        let answers = check(&recipe, &frames);
-        let answers = String::from_utf8(answers).unwrap();
-        let lines: Vec<&str> = answers.lines().collect();
-        let refused = format!("ff14{:04x}", count - 1);
-        assert_eq!([lines[0], lines[2]], [&refused, &refused]);
-        assert!(lines[1].starts_with("01"), "{answers}");
-        let folder = Folder::new();
-        let path = folder.with("recipe", &recipe);
-        let ending = run_input(&path, zero.as_bytes(), &["--decimal"]);
-        assert_eq!(
-            ending.output,
-            format!(
-                "refused 20 at s{}: fmod of an infinite number, or by zero\n",
-                count - 1
-            )
-            .as_bytes()
-        );
-    }
-    let folder = Folder::new();
-    let between: String = (1..513).map(negate).collect();
-    let recipe = folder.with("recipe", format!("{first}{between}"));
-    let ending = run_input(&recipe, zero.as_bytes(), &[]);
-    assert_eq!(
-        (ending.status.code(), &ending.output[..]),
-        (Some(3), &b""[..])
-    );
-    // where the line is broken depends on the length of the folder's name
-    let words: Vec<&str> = ending.errors.split_whitespace().collect();
-    let told = ":513:1: refused 10 (ff0a0000): 513 steps";
-    assert!(words.join(" ").contains(told), "{}", ending.errors);
 }
 
 #[test]
@@ -320,31 +259,24 @@ pub fn words(random: &mut Random, steps: &[Step]) -> Vec<u64> {
 #[test]
 fn generated() {
     let mut random = Random::new(71);
-    let mut counts: BTreeMap<(Form, u8), usize> = BTreeMap::new();
-    for _ in 0..400 {
+    let mut counts: BTreeMap<u8, usize> = BTreeMap::new();
+    for _ in 0..300 {
         let recipe = recipe(&mut random);
-        let form = Form::told(&recipe.text).expect("it is read");
         let count = random.one_of(&[0, 1, 10, 30, 300]);
         let frames = random.lines(&recipe, count);
         for line in check(&recipe.text, &frames).split(|&byte| byte == b'\n') {
-            if let [b'f', b'f', high, low, place @ ..] = line {
-                assert_eq!(place.len(), form.digits());
+            if let [b'f', b'f', high, low, ..] = line {
                 let digits = [*high, *low];
                 let digits = std::str::from_utf8(&digits).unwrap();
-                let number = u8::from_str_radix(digits, 16).unwrap();
-                *counts.entry((form, number)).or_default() += 1;
+                *counts
+                    .entry(u8::from_str_radix(digits, 16).unwrap())
+                    .or_default() += 1;
             }
         }
     }
-    for (form, number) in Form::BOTH
-        .into_iter()
-        .flat_map(|form| [20, 21, 22, 30, 31, 32].map(|number| (form, number)))
-    {
-        let found = counts.get(&(form, number)).copied().unwrap_or_default();
-        assert!(
-            found >= 50,
-            "{number} came up {found} times in the form {form:?}: {counts:?}"
-        );
+    for number in [20, 21, 22, 30, 31, 32] {
+        let found = counts.get(&number).copied().unwrap_or_default();
+        assert!(found >= 100, "{number} came up {found} times: {counts:?}");
     }
 }
 

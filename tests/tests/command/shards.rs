@@ -3,7 +3,6 @@
 use crate::child::{Child, Ending};
 use crate::folder::Folder;
 use crate::{assert_same, command, counted, counted_answers, run_file, IDENTITY};
-use estrenwind_tests::recipes::forms::rewritten;
 use std::fs::{self, File};
 use std::path::PathBuf;
 
@@ -29,14 +28,8 @@ fn answers_of(part: &[u8]) -> String {
 /// Runs each shard of a run on so many frames.
 #[track_caller]
 fn parts(frames: u64, count: usize, options: &[&str]) -> Parts {
-    parts_of(IDENTITY, frames, count, options)
-}
-
-/// The same of another recipe with one whole input.
-#[track_caller]
-fn parts_of(recipe: &str, frames: u64, count: usize, options: &[&str]) -> Parts {
     let folder = Folder::new();
-    let recipe = folder.with("recipe", recipe);
+    let recipe = folder.with("recipe", IDENTITY);
     let lines = match options.contains(&"--decimal") {
         true => (0..frames).map(|n| format!("{n}\n")).collect(),
         false => counted(frames),
@@ -139,34 +132,6 @@ fn joined_parts_are_the_one_run() {
             parts(frames, count, &[]).give(&format!("{frames} frames, {count} shards"), &expected);
         }
     }
-}
-
-/// A recipe in the long form, whose refusal lines have 9 bytes: the parts give the one run; and they are parts of another run than those of the same
-/// steps in the short form, whose lines are not the same.
-#[test]
-fn parts_of_the_long_form() {
-    let long = String::from_utf8(rewritten(IDENTITY.as_bytes())).unwrap();
-    for frames in [7, 4_097, 20_000] {
-        let expected = counted_answers(frames).replace("ff1e00\n", "ff1e0000\n");
-        for count in [1, 3] {
-            let case = format!("{frames} frames in the long form, {count} shards");
-            parts_of(&long, frames, count, &[]).give(&case, &expected);
-        }
-    }
-    let [short, long] = [IDENTITY, &long].map(|recipe| parts_of(recipe, 5_000, 2, &[]));
-    let ending = join(&[&short.paths[0], &long.paths[1]], &[]);
-    assert_eq!(ending.status.code(), Some(74));
-    assert!(
-        ending.errors.contains("are of two runs"),
-        "{}",
-        ending.errors
-    );
-    // A refusal that was cut to the short form's length is no longer a line that was written.
-    long.change(1, |bytes| {
-        let text = String::from_utf8(bytes.clone()).unwrap();
-        *bytes = text.replacen("ff1e0000\n", "ff1e00", 1).into_bytes();
-    });
-    long.are_refused("answers where");
 }
 
 /// A block is 4,096 lines, in every version: else parts of different ones would not go together.

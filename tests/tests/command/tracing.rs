@@ -5,8 +5,7 @@ use crate::running::{recipe, words};
 use crate::{run_file, run_input};
 use estrenwind_tests::patterns::Random;
 use estrenwind_tests::recipes::frame;
-use estrenwind_tests::reference::recipe::form::MOST_STEPS;
-use estrenwind_tests::reference::recipe::{run, Form, Step, Way};
+use estrenwind_tests::reference::recipe::{run, Step, Way};
 use std::collections::BTreeMap;
 
 /// The bits in a table: each row ends with them, under their title.
@@ -54,12 +53,10 @@ fn generated() {
             assert!(line.chars().count() <= 80, "{line}");
         }
         let values = |count: usize, line: &[u8]| -> Vec<u64> {
-            let form = Form::told(&recipe).expect("it is read");
-            let front = &recipe[..form.line() * count];
-            let values = run(Way::Short, front, line, MOST_STEPS).unwrap();
+            let values = run(Way::Short, &recipe[..39 * count], line, 128).unwrap();
             values.iter().map(|value| value.word).collect()
         };
-        let number = match run(Way::Short, &recipe, &line, MOST_STEPS) {
+        let number = match run(Way::Short, &recipe, &line, 128) {
             Ok(_) => {
                 assert_eq!(bits(&shown), values(steps.len(), &line));
                 assert_eq!(ending.status.code(), Some(0));

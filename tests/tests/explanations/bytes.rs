@@ -5,7 +5,7 @@ use estrenwind_tests::recipes::comparison::check;
 use estrenwind_tests::recipes::growing::{grow_sheet, Plan};
 use estrenwind_tests::recipes::walks::bytes;
 use estrenwind_tests::recipes::{Call, ExplainCall, Line};
-use estrenwind_tests::reference::recipe::{Form, Way};
+use estrenwind_tests::reference::recipe::Way;
 
 #[test]
 fn every_byte_at_every_place_of_a_text() {
@@ -17,21 +17,12 @@ fn every_opcode_with_every_operand() {
     bytes::every_opcode_with_every_operand::<ExplainCall>();
 }
 
-/// Every operand of a step at the end of the longest recipe of each form: for some it is refused, for some
-/// not.
+/// Every operand of a step at the end of the longest recipe: for some it is refused, for some not.
 #[test]
-fn the_last_step_on_every_other() {
-    for form in Form::BOTH {
-        the_last_step_of(form);
-    }
-}
-
-fn the_last_step_of(form: Form) {
-    let last = form.most_steps() - 1;
+fn the_last_of_128_steps_on_every_other() {
     let plan = Plan {
-        form,
-        steps: last,
-        inputs: (0..last).step_by(8).take(16).collect(),
+        steps: 127,
+        inputs: (0..127).step_by(8).collect(),
         chain: false,
         ordinary: true,
         refusing: vec![],
@@ -39,7 +30,7 @@ fn the_last_step_of(form: Form) {
     let (mut draft, _) = grow_sheet(&mut Random::new(0x92), &plan);
     draft.lines.push(Line::default());
     let (mut passed, mut explained) = (0, 0);
-    for operand in 0..=last + 1 {
+    for operand in 0..=128 {
         for (opcode, a, b) in [
             (0x18, operand, 0),
             (0x22, 0, operand),
@@ -58,7 +49,7 @@ fn the_last_step_of(form: Form) {
             (0x31, 0, operand),
             (0x32, operand, 0),
         ] {
-            draft.lines[last] = Line::step(opcode, a, b);
+            draft.lines[127] = Line::step(opcode, a, b);
             let answer = check(Way::Short, &draft.explain_call()).answer;
             passed += (answer.refusal == 0 && answer.reason == 0) as u64;
             explained += (answer.reason != 0) as u64;
@@ -69,23 +60,20 @@ fn the_last_step_of(form: Form) {
 
 #[test]
 fn texts_of_every_length() {
-    for form in Form::BOTH {
-        let plan = Plan {
-            form,
-            steps: form.most_steps(),
-            inputs: vec![0],
-            chain: true,
-            ordinary: true,
-            refusing: vec![],
-        };
-        let (draft, _) = grow_sheet(&mut Random::new(0x90), &plan);
-        let whole = draft.explain_call();
-        bytes::texts_of_every_length(&whole, whole.text.len() + 100);
-        for times in [2, 500, 1 << 12] {
-            let text = whole.text.repeat(times);
-            let outcome = check(Way::Short, &ExplainCall { text });
-            assert_eq!(outcome.answer.refusal, 10);
-        }
+    let plan = Plan {
+        steps: 128,
+        inputs: vec![0],
+        chain: true,
+        ordinary: true,
+        refusing: vec![],
+    };
+    let (draft, _) = grow_sheet(&mut Random::new(0x90), &plan);
+    let whole = draft.explain_call();
+    bytes::texts_of_every_length(&whole, whole.text.len() + 100);
+    for times in [2, 500, 1 << 12] {
+        let text = whole.text.repeat(times);
+        let outcome = check(Way::Short, &ExplainCall { text });
+        assert_eq!(outcome.answer.refusal, 10);
     }
 }
 

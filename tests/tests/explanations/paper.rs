@@ -1,8 +1,7 @@
-//! What request W-205 says, read off it and document 01 by hand, not off the reference. Each row is tried
-//! in the long form too, with the same answer (W-206).
+//! What request W-205 says, read off it and document 01 by hand, not off the reference.
 
 use estrenwind_tests::library::ExplainAnswer;
-use estrenwind_tests::recipes::comparison::check_in_both_forms as check;
+use estrenwind_tests::recipes::comparison::check;
 use estrenwind_tests::recipes::limits::{INF, LEAST, MAX, MOST, TINY, TWO_53, TWO_62, TWO_63};
 use estrenwind_tests::recipes::{Draft, Ends, ExplainCall, Line};
 use estrenwind_tests::reference::recipe::Way;
@@ -15,7 +14,7 @@ const PASSED: u64 = 0x00;
 fn explains(lines: &[Line], operand: u64, reason: u64) {
     let (lines, words) = (lines.to_vec(), vec![]);
     let step = lines.len() as u64 - 1;
-    let call = Draft::new(lines, words).explain_call();
+    let call = Draft { lines, words }.explain_call();
     let expected = match reason {
         PASSED => ExplainAnswer::PASSED,
         _ => ExplainAnswer {

@@ -8,12 +8,15 @@ use estrenwind_tests::patterns::Random;
 use estrenwind_tests::recipes::limits::{TWO_53, TWO_63};
 use estrenwind_tests::recipes::walks::bytes;
 use estrenwind_tests::recipes::{shown, Call, ExplainCall, SheetCall};
-use estrenwind_tests::reference::recipe::form::LONGEST_SHEET;
-use estrenwind_tests::reference::recipe::Form;
+use estrenwind_tests::reference::recipe::{sheet, text};
 use std::collections::BTreeMap;
 use std::ops::RangeInclusive;
 
 const SEEDS: u64 = 235;
+
+const RECIPE_LINE: usize = text::LINE;
+/// Enough for every sheet.
+const ROOM: usize = text::MOST_STEPS * sheet::LINE;
 
 /// The number that stands in these columns of a line.
 fn number(line: &[u8], columns: std::ops::Range<usize>) -> u64 {
@@ -98,7 +101,7 @@ fn overflows(x: f64, n: i64) -> bool {
 /// The code of an explanation that goes with the sheet, 00 where nothing is explained; or what is
 /// wrong.
 fn compared(text: &[u8]) -> Result<u64, String> {
-    let mut memory = vec![0; LONGEST_SHEET];
+    let mut memory = vec![0; ROOM];
     let explained = library::explain(text);
     let sheet = library::sheet(text, &mut memory);
     let wrong = |what: &str| {
@@ -126,13 +129,8 @@ fn compared(text: &[u8]) -> Result<u64, String> {
     if (explained.refusal, explained.place, step) != (0, 0, sheet.place) {
         return wrong("the sheet refuses a step");
     }
-    let form = Form::told(text).expect("the text was read");
-    let columns = match form {
-        Form::Short => [0..2, 2..4, 4..6],
-        Form::Long => [0..2, 2..6, 6..10],
-    };
-    let line = &text[form.line() * step as usize..][..form.line()];
-    let [opcode, a, b] = columns.map(|columns| number(line, columns));
+    let line = &text[RECIPE_LINE * step as usize..][..RECIPE_LINE];
+    let [opcode, a, b] = [0..2, 2..4, 4..6].map(|columns| number(line, columns));
     if !codes(opcode).contains(&reason) {
         return wrong("the reason is another opcode's");
     }
@@ -144,14 +142,14 @@ fn compared(text: &[u8]) -> Result<u64, String> {
         return wrong("the reason is another refusal's");
     }
     // The earlier steps are a recipe that passes, and their sheet has the ranges.
-    let earlier = &text[..form.line() * step as usize];
+    let earlier = &text[..RECIPE_LINE * step as usize];
     let passed = SheetAnswer::passed(step as usize);
     if library::sheet(earlier, &mut memory) != passed
         || library::explain(earlier) != ExplainAnswer::PASSED
     {
         return wrong("the earlier steps are refused");
     }
-    let earlier = shown::read(form, &memory[..form.sheet_line() * step as usize]);
+    let earlier = shown::read(&memory[..sheet::LINE * step as usize]);
     // A field that isn't used is zero, and step 0 is there.
     let [a, b] = [a, b].map(|operand| earlier[operand as usize].ends());
     let first = codes(opcode).find(|&code| is_true(opcode, code, a, b));

@@ -5,7 +5,7 @@ use estrenwind_tests::comparison::on_all_cores;
 use estrenwind_tests::patterns::Random;
 use estrenwind_tests::recipes::comparison::Outcome;
 use estrenwind_tests::recipes::{Call, LinesCall};
-use estrenwind_tests::reference::recipe::{Form, Way};
+use estrenwind_tests::reference::recipe::Way;
 use std::collections::BTreeMap;
 use std::ops::Range;
 
@@ -18,6 +18,7 @@ const RECIPES: u64 = 75;
 const ROOMS: u64 = 7;
 
 const LONG: usize = 19;
+const SHORT: usize = 7;
 
 /// The calls of a seed. Of its recipes, one in five has a fault in its text, and as many have a
 /// step that refuses over the frame that they came with.
@@ -51,10 +52,10 @@ fn calls(seed: u64, visit: &mut dyn FnMut(LinesCall)) {
 #[derive(Default)]
 struct Counts {
     calls: u64,
-    /// Refusals of calls by what their texts tell, 0 where one is answered.
-    refused: BTreeMap<(Option<Form>, u64), u64>,
+    /// Refusals of calls, 0 where one is answered.
+    refused: BTreeMap<u64, u64>,
     /// Refusals among the answers, and under 1 and 2 answers of these kinds.
-    answers: BTreeMap<(Option<Form>, u64), u64>,
+    answers: BTreeMap<u64, u64>,
     /// Bytes that were left where a line was not answered for want of memory.
     left: BTreeMap<usize, u64>,
     /// Such calls whose next answer, a short one, would have fit.
@@ -69,8 +70,7 @@ struct Counts {
 impl Counts {
     fn add(&mut self, call: &LinesCall, outcome: &Outcome<LinesCall>) {
         self.calls += 1;
-        let told = Form::told(&call.text);
-        *self.refused.entry((told, outcome.refusal())).or_default() += 1;
+        *self.refused.entry(outcome.refusal()).or_default() += 1;
         if outcome.refusal() != 0 {
             return;
         }
@@ -80,13 +80,13 @@ impl Counts {
         );
         let answers = &outcome.memory[LinesCall::BEFORE..][..written];
         for answer in answers.split_inclusive(|&byte| byte == b'\n') {
-            let digits = match answer.starts_with(b"ff") {
-                true => &answer[2..4],
-                false => &answer[..2],
+            let digits = match answer.len() {
+                SHORT => &answer[2..4],
+                _ => &answer[..2],
             };
             let digits = std::str::from_utf8(digits).expect("digits");
             let number = u64::from_str_radix(digits, 16).expect("digits");
-            *self.answers.entry((told, number)).or_default() += 1;
+            *self.answers.entry(number).or_default() += 1;
         }
         for line in call.lines[..read].split_inclusive(|&byte| byte == b'\n') {
             let length = match line.len() - 1 {
@@ -145,14 +145,14 @@ impl Counts {
             }
         }
         println!("{} calls", self.calls);
-        for form in Form::BOTH.map(Some) {
-            let refusals = LinesCall::REFUSALS.iter().copied();
-            let refusals = refusals.chain([0]).map(|number| (form, number));
-            expect("refusal", &self.refused, refusals, 1_000);
-            let answers = [1, 2, 30, 31, 32, 20, 21, 22].map(|number| (form, number));
-            expect("answer", &self.answers, answers, 1_000);
-        }
-        expect("refusal", &self.refused, [(None, 10)], 1_000);
+        let refusals = LinesCall::REFUSALS.iter().copied();
+        expect("refusal", &self.refused, refusals.chain([0]), 1_000);
+        expect(
+            "answer",
+            &self.answers,
+            [1, 2, 30, 31, 32, 20, 21, 22],
+            1_000,
+        );
         expect("bytes left", &self.left, 0..LONG, 500);
         expect("length", &self.lengths, [0, 255, 256, 257, 258, 1000], 500);
         for (what, count) in [
@@ -181,7 +181,7 @@ fn compare(way: Way, seeds: Range<u64>) -> Counts {
 }
 
 #[test]
-fn on_four_hundred_thousand_calls_by_the_short_way() {
+fn on_four_hundred_thousand_calls_by_the_short_form() {
     let counts = compare(Way::Short, 0..SEEDS);
     assert_eq!(counts.calls, SEEDS * CALLS);
     assert!(counts.calls >= 400_000, "{} calls", counts.calls);

@@ -5,7 +5,7 @@ use estrenwind_tests::patterns::Random;
 use estrenwind_tests::programs::run_output;
 use estrenwind_tests::recipes::comparison::Outcome;
 use estrenwind_tests::recipes::{Call, LinesCall};
-use estrenwind_tests::reference::recipe::{Form, Way};
+use estrenwind_tests::reference::recipe::Way;
 
 /// What the program writes for a recipe, an empty line, and these lines.
 fn program(text: &[u8], lines: &[u8]) -> Vec<u8> {
@@ -73,7 +73,7 @@ fn joined_they_are_the_program_s_output() {
     let mut random = Random::new(43);
     for round in 0..2_500 {
         let [lines, text] = input(&mut random);
-        let lengths = [19, 20, 25, 26, 27, 28, 37, 38, 39, 57, 400, 0];
+        let lengths = [19, 20, 25, 26, 37, 38, 39, 57, 400, 0];
         let mut room = || match lengths[round % lengths.len()] {
             0 => 19 + random.below(100) as usize,
             length => length,
@@ -133,11 +133,7 @@ fn a_refused_recipe() {
             if answer.refusal == 0 || has_empty_line || !text.ends_with(b"\n") {
                 continue;
             }
-            let digits = match Form::told(&text) {
-                Some(Form::Long) => 4,
-                Some(Form::Short) | None => 2,
-            };
-            let line = format!("ff{:02x}{:0digits$x}\n", answer.refusal, answer.place);
+            let line = format!("ff{:02x}{:02x}\n", answer.refusal, answer.place);
             assert_same(line.as_bytes(), &program(&text, &lines), &text, &lines);
             met += (answer.refusal == fault) as u64;
         }

@@ -6,7 +6,7 @@ use estrenwind_tests::recipes::comparison::{check, Outcome};
 use estrenwind_tests::recipes::growing::{grow, Plan};
 use estrenwind_tests::recipes::walks::bytes::{self, of_every_sort};
 use estrenwind_tests::recipes::{frame, Call, Draft, Line, LinesCall};
-use estrenwind_tests::reference::recipe::{Form, Kind, Way};
+use estrenwind_tests::reference::recipe::{Kind, Way};
 
 #[test]
 fn every_byte_at_every_place_of_a_text() {
@@ -32,30 +32,27 @@ fn every_byte_at_every_place_of_lines() {
 
 #[test]
 fn texts_of_every_length() {
-    for form in Form::BOTH {
-        let plan = Plan {
-            form,
-            steps: form.most_steps(),
-            inputs: vec![],
-            chain: true,
-            ordinary: false,
-            refusing: vec![],
-        };
-        let (draft, _) = grow(&mut Random::new(38), &plan);
-        let mut whole = LinesCall::of(&draft);
-        whole.lines = b"\n0\n\n".to_vec();
-        whole.lent = 64;
-        bytes::texts_of_every_length(&whole, whole.text.len() + 100);
-    }
+    let plan = Plan {
+        steps: 128,
+        inputs: vec![],
+        chain: true,
+        ordinary: false,
+        refusing: vec![],
+    };
+    let (draft, _) = grow(&mut Random::new(38), &plan);
+    let mut whole = LinesCall::of(&draft);
+    whole.lines = b"\n0\n\n".to_vec();
+    whole.lent = 64;
+    bytes::texts_of_every_length(&whole, whole.text.len() + 100);
 }
 
 /// So many inputs of any whole number, of which the last is given back.
 fn of_inputs(count: usize) -> Draft {
     let any = [i64::MIN as u64, i64::MAX as u64];
-    Draft::new(
-        vec![Line::input(Kind::Whole, any); count],
-        (0x0123_4567_89ab_cdef..).take(count).collect(),
-    )
+    Draft {
+        lines: vec![Line::input(Kind::Whole, any); count],
+        words: (0x0123_4567_89ab_cdef..).take(count).collect(),
+    }
 }
 
 /// The first `length` digits of a frame, or all and more, and a line after it: of 16 inputs, the
@@ -63,12 +60,7 @@ fn of_inputs(count: usize) -> Draft {
 #[test]
 fn lines_of_every_length() {
     for inputs in 1..=16 {
-        let form = Form::BOTH[inputs % 2];
-        let draft = of_inputs(inputs).in_form(form);
-        let refused = match form {
-            Form::Short => "ff1e00\n",
-            Form::Long => "ff1e0000\n",
-        };
+        let draft = of_inputs(inputs);
         let whole = frame(&draft.words);
         let last = draft.words[inputs - 1];
         for length in (0..=600).chain([1 << 12, 1 << 16]) {
@@ -81,7 +73,7 @@ fn lines_of_every_length() {
             let first = if length == 16 * inputs {
                 format!("02{last:016x}\n")
             } else {
-                refused.into()
+                "ff1e00\n".into()
             };
             let answers = format!("{first}02{last:016x}\n");
             let written = &outcome.memory[LinesCall::BEFORE..][..answers.len()];
@@ -98,13 +90,7 @@ fn lines_of_every_length() {
 /// What lies behind the text and behind the lines, more of the same, is neither read nor answered.
 #[test]
 fn text_and_lines_cut_at_every_place() {
-    for form in Form::BOTH {
-        text_and_lines_of(form);
-    }
-}
-
-fn text_and_lines_of(form: Form) {
-    let draft = of_every_sort().in_form(form);
+    let draft = of_every_sort();
     let call = LinesCall::of(&draft);
     let lines = [
         &call.lines[..],
@@ -132,16 +118,12 @@ fn text_and_lines_of(form: Form) {
     }
     for length in 0..=call.text.len() {
         let answer = cut(&call.text[..length], &lines);
-        let fits = length > 0 && length % form.line() == 0;
+        let fits = length > 0 && length % 39 == 0;
         assert_eq!(answer.refusal, if fits { 0 } else { 10 }, "{length}");
     }
-    // The lines are the text: no line of 38 or 42 digits is a frame.
+    // The lines are the text: no line of 38 digits is a frame.
     let answer = cut(&call.text, &call.text);
-    let refusal = match form {
-        Form::Short => 7,
-        Form::Long => 9,
-    };
-    assert_eq!(answer.written, refusal * draft.lines.len() as u64);
+    assert_eq!(answer.written, 7 * draft.lines.len() as u64);
 }
 
 /// A line of a mebibyte, and a hundred thousand lines.
@@ -175,10 +157,10 @@ fn lines_of_great_length() {
 fn noise() {
     let mut random = Random::new(39);
     let mut answered = 0u64;
-    let wholes = Form::BOTH.map(|form| LinesCall::of(&of_inputs(1).in_form(form)).text);
+    let whole = LinesCall::of(&of_inputs(1)).text;
     for round in 0..40_000 {
         let text = match round % 5 {
-            4 => wholes[round as usize / 5 % 2].clone(),
+            4 => whole.clone(),
             _ => bytes::noise(&mut random, round),
         };
         let length = random.below(80);

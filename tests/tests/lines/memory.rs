@@ -4,11 +4,10 @@ use estrenwind_tests::library::{ew_run_lines, LinesAnswer};
 use estrenwind_tests::patterns::Random;
 use estrenwind_tests::recipes::comparison::check;
 use estrenwind_tests::recipes::faults::damaged;
-use estrenwind_tests::recipes::forms::rewritten;
 use estrenwind_tests::recipes::growing::grow;
 use estrenwind_tests::recipes::walks::memory;
 use estrenwind_tests::recipes::{Call, LinesCall};
-use estrenwind_tests::reference::recipe::{Form, Way};
+use estrenwind_tests::reference::recipe::Way;
 use std::ptr;
 
 const CONSTANT: &[u8] = b"040000000000000000002a0000000000000000\n";
@@ -30,11 +29,7 @@ fn memory_of_every_length_for_one_line() {
 /// answered where 19 bytes are left behind the answers before it, and a short answer needs as many.
 #[test]
 fn memory_of_every_length_for_every_mix() {
-    for (mix, form) in (0..256).flat_map(|mix| Form::BOTH.map(|form| (mix, form))) {
-        let (text, refusal_line) = match form {
-            Form::Short => (CONSTANT.to_vec(), 7),
-            Form::Long => (rewritten(CONSTANT), 9),
-        };
+    for mix in 0..256 {
         let is_long = |place: usize| mix >> place & 1 == 1;
         let lines: Vec<u8> = (0..8)
             .flat_map(|place| if is_long(place) { "\n" } else { "0\n" }.bytes())
@@ -43,10 +38,10 @@ fn memory_of_every_length_for_every_mix() {
             let size = move |place: usize| sizes[is_long(place) as usize];
             move |count: usize| (0..count).map(size).sum::<usize>()
         };
-        let (read, written) = (ends([2, 1]), ends([refusal_line, 19]));
+        let (read, written) = (ends([2, 1]), ends([7, 19]));
         for lent in 0..=8 * 19 + 20 {
             let call = LinesCall {
-                text: text.clone(),
+                text: CONSTANT.to_vec(),
                 lines: lines.clone(),
                 lent,
             };
@@ -59,7 +54,7 @@ fn memory_of_every_length_for_every_mix() {
                 read: read(count) as u64,
                 written: written(count) as u64,
             };
-            assert_eq!(answer, expected, "{form:?}, {mix:08b}, {lent} bytes lent");
+            assert_eq!(answer, expected, "{mix:08b}, {lent} bytes lent");
         }
     }
 }
@@ -68,15 +63,12 @@ fn memory_of_every_length_for_every_mix() {
 #[test]
 fn as_many_as_fit() {
     for lent in 19..=400 {
-        let long = rewritten(CONSTANT);
-        for (text, line, answer, fit) in [
-            (CONSTANT, "\n", "02000000000000002a\n", lent / 19),
-            (CONSTANT, "0\n", "ff1e00\n", (lent - 19) / 7 + 1),
-            (&long, "\n", "02000000000000002a\n", lent / 19),
-            (&long, "0\n", "ff1e0000\n", (lent - 19) / 9 + 1),
+        for (line, answer, fit) in [
+            ("\n", "02000000000000002a\n", lent / 19),
+            ("0\n", "ff1e00\n", (lent - 19) / 7 + 1),
         ] {
             let call = LinesCall {
-                text: text.to_vec(),
+                text: CONSTANT.to_vec(),
                 lines: line.repeat(70).into(),
                 lent,
             };

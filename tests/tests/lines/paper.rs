@@ -2,9 +2,8 @@
 
 use estrenwind_tests::library::LinesAnswer;
 use estrenwind_tests::recipes::comparison::check;
-use estrenwind_tests::recipes::forms::rewritten;
 use estrenwind_tests::recipes::{Call, LinesCall};
-use estrenwind_tests::reference::recipe::{Form, Way};
+use estrenwind_tests::reference::recipe::Way;
 
 /// "One line per step": an input from -2.5 to 7.25, its floor, and that as a whole number.
 const EXAMPLE: &str = "\
@@ -13,26 +12,9 @@ const EXAMPLE: &str = "\
 18010000000000000000000000000000000000
 ";
 
-/// The answers to all of these lines; stops where not all are read, or the long form has other ones.
+/// The answers to all of these lines; stops where not all are read.
 #[track_caller]
 fn answers(text: &str, lines: &str) -> String {
-    let short = answers_to(text.as_bytes(), lines);
-    let long = answers_to(&rewritten(text.as_bytes()), lines);
-    assert_eq!(long, with_4_digits(&short), "{text}");
-    short
-}
-
-/// Answers about a short text as those about a long one are: places of refusals have 4 digits.
-fn with_4_digits(answers: &str) -> String {
-    let line = |line: &str| match line.strip_prefix("ff") {
-        Some(refusal) => format!("ff{}00{}\n", &refusal[..2], &refusal[2..]),
-        None => format!("{line}\n"),
-    };
-    answers.lines().map(line).collect()
-}
-
-#[track_caller]
-fn answers_to(text: &[u8], lines: &str) -> String {
     let call = LinesCall {
         text: text.into(),
         lines: lines.into(),
@@ -53,21 +35,9 @@ fn answers_to(text: &[u8], lines: &str) -> String {
     String::from_utf8(outcome.memory[LinesCall::BEFORE..][..written].to_vec()).unwrap()
 }
 
-/// The refusal and place of the call, over so many bytes of memory; stops where the long form of a short
-/// text has others. Texts of more than 128 lines are not refused there.
+/// The refusal and place of the call, over so many bytes of memory.
 #[track_caller]
 fn refused(text: &str, lines: &str, lent: usize) -> (u64, u64) {
-    let refusal = refused_call(text.as_bytes(), lines, lent);
-    let is_short = Form::told(text.as_bytes()) == Some(Form::Short);
-    if is_short && text.len() <= Form::Short.longest_text() {
-        let long = rewritten(text.as_bytes());
-        assert_eq!(refused_call(&long, lines, lent), refusal, "{text}");
-    }
-    refusal
-}
-
-#[track_caller]
-fn refused_call(text: &[u8], lines: &str, lent: usize) -> (u64, u64) {
     let call = LinesCall {
         text: text.into(),
         lines: lines.into(),

@@ -3,7 +3,6 @@
 
 use crate::child::Child;
 use crate::literal::{longest, EXAMPLE, FRAME, TURNED_DOWN};
-use crate::long::{self, longest as longest_long};
 use crate::{assert_same, Program, OF_RECIPES, RUN};
 use estrenwind_tests::patterns::Random;
 use estrenwind_tests::reference::recipe::Way;
@@ -50,54 +49,6 @@ fn a_byte_at_a_time() {
         format!("{}\n{}", longest(), frames()).as_bytes(),
         &[1],
     );
-    for input in [long::EXAMPLE, long::TURNED_DOWN] {
-        for program in OF_RECIPES {
-            check(&program, input.as_bytes(), &[1]);
-        }
-        check(&RUN, format!("{input}\n{}", frames()).as_bytes(), &[1]);
-    }
-}
-
-/// The longest recipe in the long form, with its empty line at byte 22,016 and without it: a byte at a time
-/// where it ends, and through buffers that are no longer than it.
-#[test]
-fn the_longest_recipe_in_the_long_form() {
-    let longest = longest_long();
-    let whole = format!("{longest}\n{}", frames());
-    for sizes in [
-        &[22_010, 1, 1, 1, 1, 1, 1, 1, 1, 1, 1, 1][..],
-        &[1; 64],
-        &[22_015],
-        &[22_016, 1],
-        &[22_016],
-        &[22_017],
-        &[22_018],
-        &[16_384],
-        &[4_993, 7],
-        &[43, 1],
-        &[42, 1],
-        &[41],
-    ] {
-        // A byte at a time takes long: the rest comes at once.
-        let sizes = [sizes, &[1 << 20]].concat();
-        for input in [
-            &whole,
-            &longest,
-            &format!("{longest}0\n\n{FRAME}\n"),
-            &format!("{longest}00{longest}"),
-        ] {
-            check(&RUN, input.as_bytes(), &sizes);
-        }
-        for program in OF_RECIPES {
-            for input in [&longest, &whole] {
-                check(&program, input.as_bytes(), &sizes);
-            }
-        }
-    }
-    // Over and over, to the end.
-    for sizes in [&[43, 1][..], &[97], &[997, 1], &[8_191]] {
-        check(&RUN, whole.as_bytes(), sizes);
-    }
 }
 
 #[test]
@@ -131,12 +82,8 @@ fn every_cut() {
     for cut in 1..input.len() {
         check(&RUN, input.as_bytes(), &[cut, input.len()]);
     }
-    let input = format!("{}\n{FRAME}\n\n{FRAME}", long::EXAMPLE);
-    for cut in 1..input.len() {
-        check(&RUN, input.as_bytes(), &[cut, input.len()]);
-    }
     for program in OF_RECIPES {
-        for recipe in [EXAMPLE, TURNED_DOWN, long::TURNED_DOWN] {
+        for recipe in [EXAMPLE, TURNED_DOWN] {
             for cut in 1..recipe.len() {
                 check(&program, recipe.as_bytes(), &[cut, recipe.len()]);
             }
@@ -148,16 +95,15 @@ fn every_cut() {
 fn sizes_at_random() {
     let mut random = Random::new(71);
     for _ in 0..40 {
-        let most = [40, 300, 5_000, 30_000, 70_000][random.below(5) as usize];
+        let most = [5, 40, 300, 5_000, 70_000][random.below(5) as usize];
         let sizes: Vec<usize> = (0..97).map(|_| 1 + random.below(most) as usize).collect();
-        for recipe in [EXAMPLE, &longest_long()] {
-            let frames = frames().repeat(1 + random.below(10) as usize);
-            let input = format!("{recipe}\n{frames}");
-            check(&RUN, input.as_bytes(), &sizes);
-        }
+        let input = format!(
+            "{EXAMPLE}\n{}",
+            frames().repeat(1 + random.below(10) as usize)
+        );
+        check(&RUN, input.as_bytes(), &sizes);
         for program in OF_RECIPES {
             check(&program, longest().as_bytes(), &sizes);
-            check(&program, longest_long().as_bytes(), &sizes);
         }
     }
 }

@@ -5,7 +5,6 @@
 
 use crate::child::Child;
 use crate::literal::{longest, EXAMPLE, FRAME};
-use crate::long::{self, longest as longest_long};
 use crate::{PROGRAMS, RUN};
 use std::path::Path;
 
@@ -74,18 +73,8 @@ fn a_recipe() {
                 let answers = answers(&path, b"", &vec![byte; MIB], endless(), b"\n\n");
                 assert_eq!(answers, b"ff0a00\n");
             }
-            // Told short, told long, and untold by a line feed elsewhere: a refusal is written in the form
-            // that is told.
-            for (head, refusal) in [
-                (&longest()[..], "ff0a00\n"),
-                (&longest()[..39], "ff0a00\n"),
-                (&longest_long(), "ff0a0000\n"),
-                (&longest_long()[..43], "ff0a0000\n"),
-                (&longest_long()[1..], "ff0a00\n"),
-            ] {
-                let answers = answers(&path, head.as_bytes(), &[b'1'; MIB], endless(), b"\n\n");
-                assert_eq!(answers, refusal.as_bytes());
-            }
+            let answers = answers(&path, longest().as_bytes(), &[b'1'; MIB], endless(), b"");
+            assert_eq!(answers, b"ff0a00\n");
         }
     }
 }
@@ -93,15 +82,9 @@ fn a_recipe() {
 /// A million frames of 17 bytes each, so that frames and pieces don't begin together.
 #[test]
 fn frames() {
-    for recipe in [EXAMPLE, long::EXAMPLE] {
-        frames_of(recipe);
-    }
-}
-
-fn frames_of(recipe: &str) {
     let frames = format!("{FRAME}\n").repeat(MIB);
     for program in RUN.paths() {
-        let mut child = Child::start(&program).write(format!("{recipe}\n").as_bytes());
+        let mut child = Child::start(&program).write(format!("{EXAMPLE}\n").as_bytes());
         let mut first = None;
         for piece in frames.as_bytes().chunks(MIB) {
             assert!(child.offer(piece));
@@ -123,32 +106,19 @@ fn frames_of(recipe: &str) {
     }
 }
 
-/// "A refused recipe gives one line and stops", and it is known to be refused at the 22,018th byte:
+/// "A refused recipe gives one line and stops", and it is known to be refused at the 4,994th byte:
 /// the program ends though its input is still open.
 #[test]
 fn a_refused_recipe_stops_the_program() {
-    let zeros = "0".repeat(22_018);
-    for (input, refusal) in [
-        (format!("{}{}", longest(), &zeros[4_992..]), "ff0a00\n"),
-        (zeros.clone(), "ff0a00\n"),
-        (format!("{}00", longest_long()), "ff0a0000\n"),
-        (format!("{}{}", long::EXAMPLE, &zeros[129..]), "ff0a0000\n"),
-        (
-            format!("{}{}", &long::EXAMPLE[1..], &zeros[128..]),
-            "ff0a00\n",
-        ),
-        (format!("{}\n", &EXAMPLE[1..]), "ff0a00\n"),
-        (
-            format!("{}\n", long::EXAMPLE.replacen('\n', "\n0", 1)),
-            "ff0a0000\n",
-        ),
-        ("\n".to_string(), "ff0a00\n"),
-        // A text of too many lines is refused at its empty line.
-        (format!("{}{}\n", longest(), &longest()[39..78]), "ff0a00\n"),
+    for input in [
+        format!("{}00", longest()),
+        format!("{}00", "0".repeat(4_992)),
+        format!("{}\n", &EXAMPLE[1..]),
+        "\n".to_string(),
     ] {
         for program in RUN.paths() {
             let child = Child::start(&program).write(input.as_bytes());
-            assert_eq!(child.stopped(), refusal.as_bytes());
+            assert_eq!(child.stopped(), b"ff0a00\n");
         }
     }
     for program in RUN.paths() {

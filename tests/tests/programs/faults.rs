@@ -12,8 +12,7 @@ mod waiting;
 mod writing;
 
 use crate::child::{Child, Ending};
-use crate::literal::EXAMPLE;
-use crate::long::longest;
+use crate::literal::{longest, EXAMPLE};
 use crate::{assert_same, Program, PROGRAMS, RUN};
 use estrenwind_tests::reference::recipe::Way;
 use reading::failing_after;

@@ -1,7 +1,6 @@
 //! Inputs that are no text, or have nothing in them.
 
 use crate::literal::{EXAMPLE, TURNED_DOWN};
-use crate::long;
 use crate::{assert_same, Program, EXPLAIN, PROGRAMS, RUN, SHEET};
 use estrenwind_tests::patterns::Random;
 use estrenwind_tests::reference::recipe::Way;
@@ -73,7 +72,7 @@ fn the_examples() {
             found += 1;
         }
     }
-    assert_eq!(found, 13);
+    assert_eq!(found, 12);
 }
 
 /// Bytes of all values, among which line feeds and digits are common or not.
@@ -95,8 +94,7 @@ fn check_noise(program: &Program, seed: u64, head: &[u8]) {
         let length = match turn % 4 {
             0 => random.below(60),
             1 => random.below(600),
-            2 if turn % 8 == 2 => 4_950 + random.below(80),
-            2 => 21_980 + random.below(80),
+            2 => 4_950 + random.below(80),
             _ => random.below(20_000),
         };
         let noise = noise(&mut random, length as usize);
@@ -110,17 +108,13 @@ fn noise_for_a_recipe() {
     check_noise(&RUN, 52, b"");
     check_noise(&SHEET, 53, EXAMPLE.as_bytes());
     check_noise(&RUN, 54, EXAMPLE.as_bytes());
-    check_noise(&SHEET, 60, long::EXAMPLE.as_bytes());
-    check_noise(&RUN, 61, long::EXAMPLE.as_bytes());
     check_noise(&EXPLAIN, 58, b"");
     check_noise(&EXPLAIN, 59, TURNED_DOWN.as_bytes());
-    check_noise(&EXPLAIN, 62, long::TURNED_DOWN.as_bytes());
 }
 
 #[test]
 fn noise_for_frames() {
     check_noise(&RUN, 55, format!("{EXAMPLE}\n").as_bytes());
-    check_noise(&RUN, 63, format!("{}\n", long::EXAMPLE).as_bytes());
     check_noise(
         &RUN,
         56,

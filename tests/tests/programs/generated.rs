@@ -1,5 +1,5 @@
-//! Files as the tests of recipes make them: recipes of both forms, of 1 to 128 or 512 steps, whole and
-//! damaged, with frames for them, whole and damaged.
+//! Files as the tests of recipes make them: recipes of 1 to 128 steps, whole and damaged, with frames
+//! for them, whole and damaged.
 
 use crate::{EXPLAIN, RUN, SHEET};
 use estrenwind_tests::patterns::Random;
@@ -7,7 +7,7 @@ use estrenwind_tests::recipes::faults::{damaged, EXPLAIN_REFUSALS};
 use estrenwind_tests::recipes::growing::grow_marked;
 use estrenwind_tests::recipes::reasons::{FACTS, PLACES};
 use estrenwind_tests::recipes::{frame, Call, ExplainCall, RunCall, SheetCall};
-use estrenwind_tests::reference::recipe::{text, Form, Step, Way};
+use estrenwind_tests::reference::recipe::{text, Step, Way};
 use std::collections::BTreeMap;
 
 /// The refusals of a text.
@@ -104,9 +104,9 @@ fn runs() {
 }
 
 /// How often each pair of kind and mark is on the lines of a sheet.
-fn count_marks(form: Form, sheet: &[u8], counts: &mut BTreeMap<[u8; 4], u64>) {
+fn count_marks(sheet: &[u8], counts: &mut BTreeMap<[u8; 4], u64>) {
     for line in sheet.split_inclusive(|&byte| byte == b'\n') {
-        let kind_and_mark = line[form.digits()..][..4].try_into().expect("four digits");
+        let kind_and_mark = line[2..6].try_into().expect("four digits");
         *counts.entry(kind_and_mark).or_default() += 1;
     }
 }
@@ -119,7 +119,7 @@ fn sheets_with_many_marks() {
         let plan = random.plan();
         let (draft, _) = grow_marked(&mut random, &plan);
         let output = SHEET.check(Way::Short, &draft.sheet_call().text);
-        count_marks(plan.form, &output, &mut counts);
+        count_marks(&output, &mut counts);
     }
     let kinds_and_marks: Vec<[u8; 4]> = counts.keys().copied().collect();
     assert_eq!(kinds_and_marks, [*b"0100", *b"0101", *b"0201"]);
@@ -159,10 +159,9 @@ fn explanations() {
     let mut check = |text: &[u8]| {
         let output = EXPLAIN.check(Way::Short, text);
         match output.len() {
-            7 | 9 if output.starts_with(b"ff") => count(&output, &mut refusals),
+            7 if output.starts_with(b"ff") => count(&output, &mut refusals),
             // The step and the operand's stand before the code.
             7 => count(&output[4..], &mut reasons),
-            11 => count(&output[8..], &mut reasons),
             _ => count(&output, &mut reasons),
         }
     };

@@ -1,5 +1,4 @@
-//! Files written out, with answers read off document 01 and requests W-202 to W-205 by hand. Those of the
-//! long form are in `long`.
+//! Files written out, with answers read off document 01 and requests W-202 to W-205 by hand.
 
 use crate::{EXPLAIN, OF_RECIPES, RUN, SHEET};
 
@@ -24,14 +23,14 @@ pub const TURNED_DOWN: &str = "\
 
 /// -0.5 and what it gives.
 pub const FRAME: &str = "bfe0000000000000";
-pub const ANSWER: &str = "02ffffffffffffffff";
+const ANSWER: &str = "02ffffffffffffffff";
 
 /// Floor of step 0.
 const FLOOR: &str = "10000000000000000000000000000000000000\n";
 /// The whole number 5.
 const FIVE: &str = "04000000000000000000050000000000000000\n";
 
-/// The longest recipe in the short form: the input, and its floor 127 times.
+/// The longest recipe there is: the input, and its floor 127 times.
 pub fn longest() -> String {
     let longest = format!("{}{}", &EXAMPLE[..39], FLOOR.repeat(127));
     assert_eq!(longest.len(), 4_992);
@@ -346,7 +345,7 @@ fn no_recipe() {
     RUN.prints(&line, "ff0a00\n");
     for program in OF_RECIPES {
         program.prints(format!("{EXAMPLE}\n"), "ff0a00\n");
-        program.prints(&line, "ff0a00\n");
+        program.prints(&line, "ff0b00\n");
     }
 }
 
@@ -421,8 +420,8 @@ fn lines_of_256_and_257_bytes() {
     }
 }
 
-/// A recipe in the short form is refused from 4,993 bytes on, as before W-206, though the empty line behind it
-/// is looked for in 22,017 now.
+/// "No empty line in the first 4,993 bytes: refusal 10 if the input goes on, else all of it is
+/// recipe with no frames."
 #[test]
 fn texts_about_as_long_as_the_longest() {
     let longest = longest();
@@ -438,7 +437,7 @@ fn texts_about_as_long_as_the_longest() {
         (format!("{longest}\n\n"), "ff1e00\n"),
         // 4,993 bytes, no empty line.
         (format!("{longest}0"), "ff0a00\n"),
-        // 4,994 bytes and more, the empty line behind a byte too many.
+        // 4,994 bytes, the empty line one byte too late.
         (format!("{longest}0\n"), "ff0a00\n"),
         (format!("{longest}0\n\n{FRAME}\n"), "ff0a00\n"),
         (format!("0{longest}\n{FRAME}\n"), "ff0a00\n"),

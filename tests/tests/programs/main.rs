@@ -8,7 +8,6 @@ mod faults;
 mod files;
 mod generated;
 mod literal;
-mod long;
 mod outputs;
 mod stack;
 

@@ -2,7 +2,6 @@
 
 use crate::child::{Child, Ending};
 use crate::literal::{longest, EXAMPLE, FRAME, TURNED_DOWN};
-use crate::long::{self, longest as longest_long};
 use crate::{Program, OF_RECIPES, PROGRAMS, RUN};
 use estrenwind_tests::reference::recipe::Way;
 use std::process::Command;
@@ -27,50 +26,31 @@ fn check(program: &Program, kib: u32, input: &[u8]) {
     }
 }
 
-/// KiB that `run` has to do with, and `sheet` and `explain`: the longest recipe, its steps, and buffers.
-const FOR_RUN: u32 = 80;
-const FOR_RECIPES: u32 = 88;
-
-fn recipes() -> [String; 7] {
-    let examples = [
-        EXAMPLE,
-        TURNED_DOWN,
-        long::EXAMPLE,
-        long::TURNED_DOWN,
-        "0\n",
-    ];
-    let [short, turned_down, long, long_turned_down, untold] = examples.map(str::to_string);
-    [
-        short,
-        turned_down,
-        longest(),
-        long,
-        long_turned_down,
-        longest_long(),
-        untold,
-    ]
+fn recipes() -> [String; 4] {
+    let [example, turned_down] = [EXAMPLE, TURNED_DOWN].map(str::to_string);
+    [example, turned_down, longest(), "0\n".to_string()]
 }
 
 #[test]
-fn run_in_a_small_stack() {
+fn run_in_48_kib() {
     let frames = format!("{FRAME}\n401e000000000000\n{}\n{FRAME}\n", "0".repeat(300));
     for recipe in recipes() {
-        check(&RUN, FOR_RUN, format!("{recipe}\n{frames}").as_bytes());
+        check(&RUN, 48, format!("{recipe}\n{frames}").as_bytes());
     }
 }
 
 #[test]
-fn sheet_and_explain_in_a_small_stack() {
+fn sheet_and_explain_in_32_kib() {
     for program in OF_RECIPES {
         for recipe in recipes() {
-            check(&program, FOR_RECIPES, recipe.as_bytes());
+            check(&program, 32, recipe.as_bytes());
         }
     }
 }
 
 /// The line about a fault is put together in the same stack.
 #[test]
-fn faults_in_a_small_stack() {
+fn faults_in_48_kib() {
     for program in PROGRAMS {
         for (redirections, errors) in [
             ("</", program.cannot_read("Is a directory")),
@@ -79,12 +59,12 @@ fn faults_in_a_small_stack() {
                 program.cannot_write("No space left on device"),
             ),
         ] {
-            let recipe = longest_long();
-            let (kib, input) = match program.name {
-                "run" => (FOR_RUN, format!("{recipe}\n{FRAME}\n")),
-                _ => (FOR_RECIPES, recipe),
+            let input = format!("{}\n{FRAME}\n", longest());
+            let input = match program.name {
+                "run" => input.as_bytes(),
+                _ => &input.as_bytes()[..4_992],
             };
-            for ending in endings(&program, kib, redirections, input.as_bytes()) {
+            for ending in endings(&program, 48, redirections, input) {
                 program.assert_ended(redirections, &ending, b"", &errors);
             }
         }

@@ -48,7 +48,7 @@ fn other_frame(random: &mut Random, draft: &Draft) -> RunCall {
 }
 
 #[test]
-fn on_a_million_calls_by_the_short_way() {
+fn on_a_million_calls_by_the_short_form() {
     let counts = compare(Way::Short, 0..SEEDS, calls);
     assert_eq!(counts.calls, SEEDS * CALLS);
     assert!(counts.calls >= 1_000_000, "{} calls", counts.calls);

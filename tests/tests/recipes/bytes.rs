@@ -5,7 +5,7 @@ use estrenwind_tests::recipes::comparison::check;
 use estrenwind_tests::recipes::growing::{grow, Plan};
 use estrenwind_tests::recipes::walks::bytes::{self, of_every_sort};
 use estrenwind_tests::recipes::{Call, RunCall};
-use estrenwind_tests::reference::recipe::{Form, Way};
+use estrenwind_tests::reference::recipe::Way;
 
 #[test]
 fn every_byte_at_every_place_of_a_text() {
@@ -24,39 +24,30 @@ fn every_opcode_with_every_operand() {
 
 #[test]
 fn texts_of_every_length() {
-    for form in Form::BOTH {
-        let plan = Plan {
-            form,
-            steps: form.most_steps(),
-            inputs: vec![],
-            chain: true,
-            ordinary: false,
-            refusing: vec![],
-        };
-        let (draft, _) = grow(&mut Random::new(24), &plan);
-        let mut whole = draft.run_call();
-        whole.lent = 600;
-        let beyond = match form {
-            Form::Short => whole.text.len() + 1,
-            Form::Long => 100,
-        };
-        bytes::texts_of_every_length(&whole, whole.text.len() + beyond);
-    }
+    let plan = Plan {
+        steps: 128,
+        inputs: vec![],
+        chain: true,
+        ordinary: false,
+        refusing: vec![],
+    };
+    let (draft, _) = grow(&mut Random::new(24), &plan);
+    let mut whole = draft.run_call();
+    whole.lent = 300;
+    bytes::texts_of_every_length(&whole, 2 * whole.text.len() + 1);
 }
 
 /// Far beyond the longest text and the longest frame.
 #[test]
 fn texts_and_frames_of_great_length() {
-    for form in Form::BOTH {
-        let whole = of_every_sort().in_form(form).run_call();
-        for times in [40, 500, 1 << 14] {
-            let mut long = whole.clone();
-            long.text = whole.text.repeat(times);
-            assert_eq!(check(Way::Short, &long).answer.refusal, 10);
-            let mut long = whole.clone();
-            long.frame = whole.frame.repeat(times);
-            assert_eq!(check(Way::Short, &long).answer.refusal, 30);
-        }
+    let whole = of_every_sort().run_call();
+    for times in [16, 500, 1 << 14] {
+        let mut long = whole.clone();
+        long.text = whole.text.repeat(times);
+        assert_eq!(check(Way::Short, &long).answer.refusal, 10);
+        let mut long = whole.clone();
+        long.frame = whole.frame.repeat(times);
+        assert_eq!(check(Way::Short, &long).answer.refusal, 30);
     }
 }
 

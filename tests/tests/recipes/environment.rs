@@ -19,12 +19,7 @@ fn of_sums(seed: u64, count: usize) -> Vec<RunCall> {
         let [one, other] = [0, 1].map(|_| 2 + random.below(3) as usize);
         lines.push(Line::step(0x40 + random.below(3) as u8, one, other));
         let words = random.finite_pair(&BINARY64).to_vec();
-        Draft {
-            form: random.form(),
-            lines,
-            words,
-        }
-        .run_call()
+        Draft { lines, words }.run_call()
     };
     (0..count).map(call).collect()
 }

@@ -5,9 +5,9 @@ use estrenwind_tests::functions::Function;
 use estrenwind_tests::library;
 use estrenwind_tests::operands::Operands;
 use estrenwind_tests::patterns::Random;
-use estrenwind_tests::recipes::comparison::{check, check_in_both_forms};
+use estrenwind_tests::recipes::comparison::check;
 use estrenwind_tests::recipes::{Draft, Line};
-use estrenwind_tests::reference::recipe::{Form, Kind, Operation, Way, OPERATIONS};
+use estrenwind_tests::reference::recipe::{Kind, Operation, Way, OPERATIONS};
 use estrenwind_tests::reference::{Class, BINARY64};
 
 /// Any double, any whole number.
@@ -25,7 +25,10 @@ fn draft(operation: &Operation, words: [u64; 2]) -> Draft {
     let mut lines: Vec<Line> = kinds.iter().map(|&kind| any(kind)).collect();
     let b = kinds.len() - 1;
     lines.push(Line::step(operation.opcode, 0, b));
-    Draft::new(lines, words[..kinds.len()].to_vec())
+    Draft {
+        lines,
+        words: words[..kinds.len()].to_vec(),
+    }
 }
 
 fn has_nan(operation: &Operation, words: [u64; 2]) -> bool {
@@ -121,11 +124,7 @@ fn every_step_on_its_edges() {
     for operation in OPERATIONS.iter().filter(|operation| operation.uses_a()) {
         let (mut completed, mut refused) = (0u64, 0u64);
         for words in cases(operation, &mut random) {
-            let form = [Form::Short, Form::Long][(words[0] & 1) as usize];
-            let outcome = check(
-                Way::Short,
-                &draft(operation, words).in_form(form).run_call(),
-            );
+            let outcome = check(Way::Short, &draft(operation, words).run_call());
             match outcome.answer.refusal {
                 0 => completed += 1,
                 32 => assert!(has_nan(operation, words)),
@@ -139,7 +138,7 @@ fn every_step_on_its_edges() {
     }
 }
 
-/// The two operands of a step may be one step, and may be the first of 128, or of 512.
+/// The two operands of a step may be one step, and may be the first of 128.
 #[test]
 fn a_step_on_one_step_twice_and_on_the_first_of_many() {
     let mut random = Random::new(27);
@@ -150,15 +149,11 @@ fn a_step_on_one_step_twice_and_on_the_first_of_many() {
         }
         for _ in 0..2_000 {
             let word = random.value(kinds[0]);
-            let form = match random.below(8) {
-                0 => Form::Long,
-                _ => Form::Short,
-            };
             let mut lines = vec![any(kinds[0])];
-            lines.resize(form.most_steps() - 1, Line::constant(Kind::Whole, 1));
+            lines.resize(127, Line::constant(Kind::Whole, 1));
             lines.push(Line::step(operation.opcode, 0, 0));
             let words = vec![word];
-            check(Way::Short, &Draft { form, lines, words }.run_call());
+            check(Way::Short, &Draft { lines, words }.run_call());
         }
     }
 }
@@ -168,8 +163,11 @@ fn a_step_on_one_step_twice_and_on_the_first_of_many() {
 fn inputs_keep_their_bits() {
     for word in [0, 1 << 63, 1, u64::MAX >> 1, 0x7ff0000000000000, u64::MAX] {
         for kind in [Kind::Double, Kind::Whole] {
-            let draft = Draft::new(vec![any(kind)], vec![word]);
-            let answer = check_in_both_forms(Way::Exact, &draft.run_call()).answer;
+            let draft = Draft {
+                lines: vec![any(kind)],
+                words: vec![word],
+            };
+            let answer = check(Way::Exact, &draft.run_call()).answer;
             if kind == Kind::Whole || BINARY64.classify(word) != Class::Nan {
                 assert_eq!((answer.kind, answer.word), (kind as u64, word));
             } else {

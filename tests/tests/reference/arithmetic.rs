@@ -8,7 +8,7 @@ use estrenwind_tests::reference::{arithmetic, short, Class, Format, BINARY32, BI
 
 type Operation = fn(&Format, u64, u64) -> Answer;
 
-/// The authority's and the short way's.
+/// The authority's and the short form's.
 const SUM: [Operation; 2] = [arithmetic::sum, short::arithmetic::sum];
 const DIFFERENCE: [Operation; 2] = [arithmetic::difference, short::arithmetic::difference];
 const PRODUCT: [Operation; 2] = [arithmetic::product, short::arithmetic::product];
@@ -120,9 +120,9 @@ fn the_nearest_pattern_on_a_larger_format() {
     }
 }
 
-/// The short way on a format of few digits and many exponents, every pair.
+/// The short form on a format of few digits and many exponents, every pair.
 #[test]
-fn the_short_way_where_exponents_are_far_apart() {
+fn the_short_form_where_exponents_are_far_apart() {
     for x in Counted::new(&WIDE).patterns() {
         for y in Counted::new(&WIDE).patterns() {
             for [exactly, shortly] in [SUM, DIFFERENCE, PRODUCT] {

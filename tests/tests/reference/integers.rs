@@ -27,7 +27,7 @@ fn by_counting_on_every_pattern_of_small_formats() {
 
 /// The two ways, and the language's own.
 #[test]
-fn as_the_short_way_and_the_language_have_it() {
+fn as_the_short_form_and_the_language_have_it() {
     let mut random = Random::new(0x520);
     let mut patterns = edges(&BINARY64);
     patterns.extend((0..1_000_000).map(|_| random.pattern(&BINARY64)));

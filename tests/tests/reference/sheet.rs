@@ -7,7 +7,7 @@ use estrenwind_tests::recipes::growing::{grow, grow_marked, grow_sheet};
 use estrenwind_tests::recipes::shown::is_finite_and_integral;
 use estrenwind_tests::recipes::{frame, SheetCall};
 use estrenwind_tests::reference::recipe::{
-    ranges, run, sheet, Form, Kind, Operation, Range, Refusal, StepRange, Way, OPERATIONS,
+    ranges, run, sheet, Kind, Operation, Range, StepRange, Way, OPERATIONS,
 };
 use estrenwind_tests::reference::BINARY64;
 
@@ -164,30 +164,12 @@ fn lines_are_as_document_01_and_w_203_say() {
     let mut text = b"0300003ff80000000000000000000000000000\n".repeat(127);
     text.extend(b"040000fffffffffffffffe0000000000000000\n");
     let ranges = sheet(Way::Exact, &text, 39 * 128).unwrap();
-    let bytes = sheet::bytes(Form::Short, &ranges);
+    let bytes = sheet::bytes(&ranges);
     assert_eq!(bytes.len(), 39 * 128);
     assert_eq!(bytes[..39], *b"0001003ff80000000000003ff8000000000000\n");
     assert_eq!(
         bytes[39 * 127..],
         *b"7f0201fffffffffffffffefffffffffffffffe\n"
-    );
-}
-
-/// W-206: "long sheets .. write steps .. with 4 digits: 41 bytes a sheet line".
-#[test]
-fn lines_of_a_long_sheet_are_as_w_206_says() {
-    let mut text = b"03000000003ff80000000000000000000000000000\n".repeat(511);
-    text.extend(b"0400000000fffffffffffffffe0000000000000000\n");
-    assert_eq!(text.len(), 22_016);
-    let refused = sheet(Way::Exact, &text, 41 * 512 - 1);
-    assert_eq!(refused, Err(Refusal::whole_call(40)));
-    let ranges = sheet(Way::Exact, &text, 41 * 512).unwrap();
-    let bytes = sheet::bytes(Form::Long, &ranges);
-    assert_eq!(bytes.len(), 20_992);
-    assert_eq!(bytes[..41], *b"000001003ff80000000000003ff8000000000000\n");
-    assert_eq!(
-        bytes[41 * 511..],
-        *b"01ff0201fffffffffffffffefffffffffffffffe\n"
     );
 }
 

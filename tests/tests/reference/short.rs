@@ -1,4 +1,4 @@
-//! The short way gives the authority's answers.
+//! The short form gives the authority's answers.
 
 use crate::counting::{Counted, PAIRED, SMALL, WIDE};
 use estrenwind_tests::functions::{Function, FUNCTIONS};

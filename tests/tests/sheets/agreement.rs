@@ -4,7 +4,7 @@ use estrenwind_tests::patterns::Random;
 use estrenwind_tests::recipes::growing::{grow, grow_sheet};
 use estrenwind_tests::recipes::walks::agreement::{compare, faults};
 use estrenwind_tests::recipes::{Draft, SheetCall};
-use estrenwind_tests::reference::recipe::Way;
+use estrenwind_tests::reference::recipe::{sheet, Way};
 
 /// Seeds that a test goes through, on all cores; each gives `CALLS` calls.
 const SEEDS: u64 = 1_600;
@@ -29,12 +29,12 @@ fn calls(seed: u64, visit: &mut dyn FnMut(SheetCall)) {
 /// The recipe's sheet, over memory that is a line longer at times.
 fn longer(random: &mut Random, draft: &Draft) -> SheetCall {
     let mut call = draft.sheet_call();
-    call.lent += [0, 0, 1, draft.form.sheet_line()][random.below(4) as usize];
+    call.lent += [0, 0, 1, sheet::LINE][random.below(4) as usize];
     call
 }
 
 #[test]
-fn on_hundreds_of_thousands_of_calls_by_the_short_way() {
+fn on_hundreds_of_thousands_of_calls_by_the_short_form() {
     let counts = compare(Way::Short, 0..SEEDS, calls);
     assert_eq!(counts.calls, SEEDS * CALLS);
     counts.expect_enough::<SheetCall>();

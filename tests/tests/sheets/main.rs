@@ -17,14 +17,13 @@ mod wrong_sums;
 use estrenwind_tests::recipes::comparison::Outcome;
 use estrenwind_tests::recipes::shown::{self, Shown};
 use estrenwind_tests::recipes::{Call, SheetCall};
-use estrenwind_tests::reference::recipe::Form;
+use estrenwind_tests::reference::recipe::sheet;
 
 /// Where the lent memory starts in an outcome's.
 const BEFORE: usize = SheetCall::BEFORE;
 
-/// The lines of a call's passed sheet.
-fn shown_lines(call: &SheetCall, outcome: &Outcome<SheetCall>) -> Vec<Shown> {
-    let form = Form::told(&call.text).expect("the sheet is passed");
+/// The lines of a passed sheet.
+fn shown_lines(outcome: &Outcome<SheetCall>) -> Vec<Shown> {
     let steps = outcome.answer.steps as usize;
-    shown::read(form, &outcome.memory[BEFORE..][..form.sheet_line() * steps])
+    shown::read(&outcome.memory[BEFORE..][..sheet::LINE * steps])
 }

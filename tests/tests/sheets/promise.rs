@@ -9,11 +9,11 @@ use estrenwind_tests::patterns::Random;
 use estrenwind_tests::recipes::growing::{grow, grow_marked, grow_sheet};
 use estrenwind_tests::recipes::shown::{is_finite_and_integral, read, Shown};
 use estrenwind_tests::recipes::{frame, Draft, Line};
-use estrenwind_tests::reference::recipe::{Kind, Operation, OPERATIONS};
+use estrenwind_tests::reference::recipe::{text, Kind, Operation, OPERATIONS};
 use estrenwind_tests::reference::BINARY64;
 use std::collections::BTreeMap;
 
-const SEEDS: u64 = 3_500;
+const SEEDS: u64 = 3_000;
 
 /// Frames that are drawn for a recipe with inputs.
 const FRAMES: usize = 20;
@@ -209,19 +209,18 @@ pub fn on_summands(random: &mut Random, opcode: u8) -> Draft {
         let next = 0x40 + random.below(3) as u8;
         lines.push(Line::step(next, 2, random.below(2) as usize));
     }
-    let (form, words) = (random.form(), vec![x[0], y[0]]);
-    Draft { form, lines, words }
+    let words = vec![x[0], y[0]];
+    Draft { lines, words }
 }
 
 /// The step on inputs of moderate ranges.
 fn on_inputs(random: &mut Random, operation: &Operation) -> Draft {
     let kinds = operation.source.operands();
-    let form = random.form();
     let input = |&kind| Line::input(kind, random.declared_range(kind));
     let mut lines: Vec<Line> = kinds.iter().map(input).collect();
     lines.push(Line::step(operation.opcode, 0, kinds.len() - 1));
     let words = lines[..kinds.len()].iter().map(|line| line.p).collect();
-    Draft { form, lines, words }
+    Draft { lines, words }
 }
 
 /// The frames of a recipe, no two the same: each input at its low end, each at its high one, and
@@ -257,7 +256,7 @@ fn check(random: &mut Random, draft: &Draft, counts: &mut Counts) -> Option<Stri
     }
     counts.passed += 1;
     assert_eq!(answer, SheetAnswer::passed(draft.lines.len()), "{call}");
-    let shown = read(draft.form, &sheet);
+    let shown = read(&sheet);
     let text = &call.text;
     let told = |words: &[u64], what: String| {
         let frame = frame(words);
@@ -305,7 +304,7 @@ fn check(random: &mut Random, draft: &Draft, counts: &mut Counts) -> Option<Stri
                 let used = draft.inputs().into_iter().filter(|&place| place < steps);
                 let frame = frame(&inputs[..used.count()]);
                 let mut prefix = vec![0; steps];
-                let answer = library::run(&text[..draft.form.line() * steps], &frame, &mut prefix);
+                let answer = library::run(&text[..text::LINE * steps], &frame, &mut prefix);
                 if (answer.refusal, answer.kind) != (0, shown.kind as u64) {
                     return told(&inputs, format!("up to step {step}: {answer}"));
                 }

@@ -8,28 +8,20 @@ use estrenwind_tests::library::SheetAnswer;
 use estrenwind_tests::recipes::comparison::check;
 use estrenwind_tests::recipes::limits::{INF, LEAST, MAX, MOST, TINY, TWO_53, TWO_63};
 use estrenwind_tests::recipes::{Draft, Ends, Line};
-use estrenwind_tests::reference::recipe::{Form, Kind, Way};
+use estrenwind_tests::reference::recipe::{Kind, Way};
 
 /// The largest fraction, 1 - 2^-53.
 const BELOW: f64 = 1.0 - f64::EPSILON / 2.0;
 /// The number after 1.
 const ABOVE: f64 = 1.0 + f64::EPSILON;
 
-/// In both forms.
 #[track_caller]
 fn shows<R: Ends>(opcode: u8, inputs: &[Line], expected: Result<R, u64>) {
-    for form in Form::BOTH {
-        shows_in(form, opcode, inputs, expected);
-    }
-}
-
-#[track_caller]
-fn shows_in<R: Ends>(form: Form, opcode: u8, inputs: &[Line], expected: Result<R, u64>) {
     let mut lines = inputs.to_vec();
     let step = lines.len();
     lines.push(Line::step(opcode, 0, step - 1));
     let words = vec![];
-    let call = Draft { form, lines, words }.sheet_call();
+    let call = Draft { lines, words }.sheet_call();
     let outcome = check(Way::Exact, &call);
     match expected {
         Err(refusal) => {
@@ -43,7 +35,7 @@ fn shows_in<R: Ends>(form: Form, opcode: u8, inputs: &[Line], expected: Result<R
         }
         Ok(ends) => {
             assert_eq!(outcome.answer, SheetAnswer::passed(step + 1), "{call}");
-            let shown = shown_lines(&call, &outcome)[step];
+            let shown = shown_lines(&outcome)[step];
             let [low, high] = ends.words();
             assert_eq!(shown.kind, R::KIND, "{call}");
             assert_eq!(
@@ -663,13 +655,14 @@ fn whole_to_double() {
 #[test]
 fn inputs_and_constants() {
     let shown = |line: Line, [low, high]: [u64; 2]| {
-        for form in Form::BOTH {
-            let call = Draft::new(vec![line], vec![]).in_form(form).sheet_call();
-            let outcome = check(Way::Exact, &call);
-            let shown = shown_lines(&call, &outcome)[0];
-            assert_eq!(Some(shown.kind), line.kind());
-            assert_eq!(shown.ends(), [low, high]);
-        }
+        let draft = Draft {
+            lines: vec![line],
+            words: vec![],
+        };
+        let outcome = check(Way::Exact, &draft.sheet_call());
+        let shown = shown_lines(&outcome)[0];
+        assert_eq!(Some(shown.kind), line.kind());
+        assert_eq!(shown.ends(), [low, high]);
     };
     for ends in [
         [0.0, 0.0],

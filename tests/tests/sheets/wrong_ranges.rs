@@ -143,7 +143,12 @@ impl Tried {
         let [a, b] = ranges.map(|range| [range.low, range.high]);
         let inputs = [a, b].map(|ends| Line::input(Kind::Double, ends));
         let lines = vec![inputs[0], inputs[1], Line::step(opcode, 0, 1)];
-        let text = Draft::new(lines, vec![]).run_call().text;
+        let text = Draft {
+            lines,
+            words: vec![],
+        }
+        .run_call()
+        .text;
         let value = |_| {
             let words = [a, b].map(|ends| random.declared(Kind::Double, ends));
             let mut written = [0; 3];

@@ -28,5 +28,5 @@ fn check(name: &str, width: u32, [x, y]: [u64; 2], answer: Answer) {
         answer,
         "reference, {case}"
     );
-    assert_eq!((function.short)(format, x, y), answer, "short way, {case}");
+    assert_eq!((function.short)(format, x, y), answer, "short form, {case}");
 }

@@ -15,7 +15,7 @@ fn folders_with(name: &str) -> Vec<PathBuf> {
 #[test]
 fn text_forms_are_the_recipes() {
     for (name, folders) in [
-        ("recipe", 13),
+        ("recipe", 12),
         ("mended", 5),
         ("nearest", 1),
         ("unbounded", 1),
@@ -32,9 +32,6 @@ fn text_forms_are_the_recipes() {
                 .map(|line| format!("    {line}\n"))
                 .collect();
             let readme = fs::read_to_string(folder.join("README.md")).unwrap();
-            if folder.ends_with("ocean_swell") {
-                continue;
-            }
             assert!(
                 readme.contains(&shown),
                 "{}: README.md has another {name}.ew",
@@ -42,105 +39,6 @@ fn text_forms_are_the_recipes() {
             );
         }
     }
-}
-
-/// The lines of a wave, with the numbers of a row of the table in the README of the sea.
-fn wave(k: usize, [east, north, second, height]: [&str; 4]) -> String {
-    let sum = match k {
-        1 => String::new(),
-        2 => "sea_2 = add wave_1 wave_2\n".to_owned(),
-        _ => format!("sea_{k} = add sea_{} wave_{k}\n", k - 1),
-    };
-    format!(
-        "east_{k} = multiply x {east}\n\
-         north_{k} = multiply y {north}\n\
-         past_{k} = multiply t {second}\n\
-         place_{k} = add east_{k} north_{k}\n\
-         phase_{k} = subtract place_{k} past_{k}\n\
-         nearest_{k} = remainder phase_{k} turn\n\
-         above_{k} = fmax nearest_{k} minus_half\n\
-         within_{k} = fmin above_{k} half\n\
-         bend_{k} = fabs within_{k}\n\
-         rest_{k} = subtract half bend_{k}\n\
-         arch_{k} = multiply within_{k} rest_{k}\n\
-         wave_{k} = multiply arch_{k} {height}\n\
-         {sum}"
-    )
-}
-
-/// The README of the sea shows the beginning and the end of its recipe, and a table with a row for each wave. Between the two stand the lines
-/// that this table says; and what the table says of a wave's steps, its length, its period and its height is so.
-#[test]
-fn the_sea_is_its_table_of_waves() {
-    let folder = repository().join("examples/ocean_swell");
-    let [readme, recipe] =
-        ["README.md", "recipe.ew"].map(|name| fs::read_to_string(folder.join(name)).unwrap());
-    let without_comments = |text: &str| -> String {
-        let lines = text
-            .lines()
-            .map(|line| line.split('#').next().unwrap().trim());
-        lines
-            .filter(|line| !line.is_empty())
-            .map(|line| format!("{line}\n"))
-            .collect()
-    };
-    let rows: Vec<Vec<&str>> = readme
-        .lines()
-        .filter(|line| line.contains(" to ") && line.ends_with(" m |"))
-        .map(|line| line.split('|').map(str::trim).collect())
-        .collect();
-    assert_eq!(rows.len(), 17);
-    let (mut waves, mut first) = (String::new(), 6);
-    for (k, row) in (1..).zip(&rows) {
-        let [_, number, steps, east, north, second, height, length, period, high, _] = row[..]
-        else {
-            panic!("{row:?}");
-        };
-        assert_eq!(number, k.to_string());
-        waves += &wave(k, [east, north, second, height]);
-        let last = first + if k == 1 { 15 } else { 16 };
-        assert_eq!(steps, format!("{first} to {last}"));
-        first = last + 1;
-        let [east, north, second, height] =
-            [east, north, second, height].map(|text| text.parse::<f64>().unwrap());
-        let turns = east.hypot(north);
-        let near = |cell: &str, unit: &str, number: f64| {
-            let shown: f64 = cell.strip_suffix(unit).unwrap().parse().unwrap();
-            let apart = (shown - number).abs();
-            assert!(apart <= 0.5 || shown < 10.0, "{row:?}");
-            assert!(apart <= 0.0501 || shown >= 10.0, "{row:?}");
-        };
-        near(length, " m", 1.0 / turns);
-        near(period, " s", 1.0 / second);
-        near(high, " m", height / 16.0);
-        let rate = second * second / turns;
-        assert!((rate - 1.561).abs() < 0.02, "wave {k}: {rate}");
-    }
-    let block = |mark: &str| {
-        let (_, rest) = readme.split_once(mark).unwrap();
-        let lines = rest.lines().skip(1).skip_while(|line| line.is_empty());
-        let lines = lines.take_while(|line| line.is_empty() || line.starts_with("    "));
-        lines
-            .map(|line| format!("{}\n", line.strip_prefix("    ").unwrap_or(line)))
-            .collect::<String>()
-    };
-    let (begins, ends) = (block("`recipe.ew` begins so:"), block("It ends so:"));
-    assert!(recipe.starts_with(begins.trim_end()), "{begins}");
-    assert!(
-        recipe.ends_with(&format!("{}\n", ends.trim_end())),
-        "{ends}"
-    );
-    let shared: String = without_comments(&begins)
-        .split_inclusive('\n')
-        .take(6)
-        .collect();
-    let expected = format!("{shared}{waves}{}", without_comments(&ends));
-    assert_eq!(without_comments(&recipe), expected);
-    let wave_2 = format!(
-        "{shared}{}",
-        waves.split_inclusive('\n').take(25).collect::<String>()
-    );
-    assert_eq!(without_comments(&begins), wave_2, "two waves are shown");
 }
 
 /// What the README of the texture that is 3000 wide shows of the command, for the variant that is refused.

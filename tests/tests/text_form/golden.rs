@@ -85,24 +85,6 @@ fn examples() {
     }
 }
 
-/// The example of 300 steps. What the others have besides is stored with the example itself, or would be as long again.
-#[test]
-fn the_long_example() {
-    let file = |file: &str| format!("examples/ocean_swell/{file}");
-    let [source, recipe, frames, decimal] =
-        ["recipe.ew", "recipe", "frames", "frames.txt"].map(file);
-    let commands: [&[&str]; 7] = [
-        &["check", &source, &recipe],
-        &["sheet", &source],
-        &["explain", &source],
-        &["run", "--quiet", &source, &frames],
-        &["run", "--quiet", "--decimal", &source, &decimal],
-        &["run", "--trace", "3", "--decimal", &source, &decimal],
-        &["run", "--trace", "10", "--decimal", &source, &decimal],
-    ];
-    compare("ocean_swell", &all_shown(&commands, ""));
-}
-
 /// Each command with these arguments, and what came of it, in 80 columns.
 fn all_shown(commands: &[&[&str]], input: &str) -> String {
     let one = |arguments: &&[&str]| {
@@ -239,64 +221,6 @@ fn slips_in_the_text_form() {
         })
         .collect();
     compare("slips", &text);
-}
-
-/// Recipes in digits that are refused for their form: what check says of each. Lines that are repeated stand here once.
-#[test]
-fn slips_of_forms() {
-    let (short, long) = (format!("{:0<38}\n", "03"), format!("{:0<42}\n", "03"));
-    let texts = [
-        format!("{}\n", &short[1..38]),
-        format!("0{short}{short}"),
-        format!("0{long}{long}"),
-        "0".repeat(39),
-        short[..38].to_owned(),
-        format!("{short}{long}"),
-        format!("{long}{short}"),
-        format!("{long}{}", &long[..41]),
-        format!("{long}{:0<42}\n", "4001ff0200"),
-        short.repeat(129),
-        long.repeat(513),
-    ];
-    let text: String = texts
-        .iter()
-        .map(|text| {
-            let ran = estrenwind(&["check", "-"], text);
-            fits_80_columns(&ran.errors);
-            let mut lines: Vec<&str> = text.lines().collect();
-            let count = lines.len();
-            lines.dedup();
-            let times = match count - lines.len() {
-                0 => String::new(),
-                _ => format!("({count} lines)\n"),
-            };
-            format!(
-                "{}\n{times}{}",
-                lines.join("\n"),
-                shown(&["check", "-"], ran)
-            )
-        })
-        .collect();
-    compare("slips_of_forms", &text);
-}
-
-/// A recipe in the long form that has no sheet: steps and places in decimal, and the refusal line with 4 digits.
-#[test]
-fn refused_in_the_long_form() {
-    let constants: String = (0..300).map(|k| format!("c{k} = constant {k}\n")).collect();
-    let recipe = format!("u = input -4 .. 4\nw = input 0 .. 64\n{constants}x = fmod u w\n");
-    let mut text = all_shown(
-        &[&["check", "-"], &["sheet", "--hex", "-"], &["explain", "-"]],
-        &recipe,
-    );
-    let json = ["sheet", "--json", "-"];
-    text += &shown(&json, estrenwind(&json, &recipe));
-    // Of the rows of constants in a table the first is enough.
-    let is_constant = |line: &str| line.contains("  constant  ");
-    let mut lines: Vec<&str> = text.lines().collect();
-    lines.dedup_by(|line, before| is_constant(line) && is_constant(before));
-    let text = lines.join("\n") + "\n";
-    compare("refused_in_the_long_form", &text);
 }
 
 /// Ranges and names as wide as they can be.

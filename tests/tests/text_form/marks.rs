@@ -5,18 +5,17 @@ use estrenwind_tests::patterns::Random;
 use estrenwind_tests::recipes::faults::damaged;
 use estrenwind_tests::recipes::SheetCall;
 
-/// The marks in lines of digits, and whether each step is a double. After the step, in 2 digits or 4, stand the kind, the mark and 32 digits.
+/// The marks in lines of digits, and whether each step is a double.
 fn of_lines(lines: &str) -> Vec<(bool, bool)> {
-    let mark = |digits: &str| match digits {
+    let mark = |line: &str| match &line[4..6] {
         "00" => false,
         "01" => true,
         other => panic!("a mark of {other}"),
     };
-    let of_line = |line: &str| {
-        let rest = &line[line.len() - 36..];
-        (&rest[..2] == "01", mark(&rest[2..4]))
-    };
-    lines.lines().map(of_line).collect()
+    lines
+        .lines()
+        .map(|line| (&line[2..4] == "01", mark(line)))
+        .collect()
 }
 
 /// The marks in a table: the column says yes, or, where there is no room for columns, the range has a word after it. A step that takes more

@@ -3,7 +3,6 @@
 use crate::{built, estrenwind, output_of, run_program};
 use estrenwind_tests::patterns::Random;
 use estrenwind_tests::recipes::reasons::{FACTS, PLACES};
-use estrenwind_tests::reference::recipe::Form;
 use std::collections::BTreeMap;
 
 const FMOD: u8 = 0x22;
@@ -135,23 +134,18 @@ fn mended(lines: &[String], step: &str, change: &str) -> Vec<String> {
     lines
 }
 
-fn form_of(recipe: &str) -> Form {
-    Form::told(recipe.as_bytes()).expect("it is read")
-}
-
 /// The step, the operand and the refusal's number are those that the programs `explain` and `sheet` write.
 fn is_the_program_s(recipe: &str, shown: &str, k: usize) {
     let explanation = run_program(&built("explain"), &[], recipe.as_bytes()).output;
     let refusal = run_program(&built("sheet"), &[], recipe.as_bytes()).output;
-    let number = |digits: &str| u64::from_str_radix(digits, 16).unwrap();
-    let digits = form_of(recipe).digits();
-    let (step, rest) = explanation.split_at(digits);
-    assert_eq!(number(step), k as u64);
-    assert_eq!(number(refusal[4..].trim_end()), k as u64);
-    let heading = format!("refused {} at step {k}, s{k}\n", number(&refusal[2..4]));
+    let field =
+        |text: &str, place: usize| u64::from_str_radix(&text[place..place + 2], 16).unwrap();
+    assert_eq!(field(&explanation, 0), k as u64);
+    assert_eq!(field(&refusal, 4), k as u64);
+    let heading = format!("refused {} at step {k}, s{k}\n", field(&refusal, 2));
     assert!(shown.contains(&heading), "{heading} is not in {shown}");
     let sentence = shown.split("\n\n").last().unwrap();
-    let operand = format!("s{}", number(&rest[..digits]));
+    let operand = format!("s{}", field(&explanation, 2));
     let named = sentence.split([' ', ',', '\n']).any(|word| word == operand);
     assert!(named, "{operand} is not in {sentence}");
 }
@@ -211,32 +205,22 @@ fn every_mend_helps() {
     let mut random = Random::new(74);
     // By opcode and code.
     let mut told: BTreeMap<(u8, u8), Told> = BTreeMap::new();
-    let mut long = Told::default();
     for _ in 0..4 {
         for facts in &FACTS {
             for place in PLACES {
                 let (draft, k) = random.turned_down(facts, place, false);
                 let recipe = String::from_utf8(draft.explain_call().text).unwrap();
                 let code = facts.codes[0];
-                let mends = mends_that_help(&recipe, k);
-                *told.entry((facts.opcode, code)).or_default() += mends;
-                if form_of(&recipe) == Form::Long {
-                    long += mends;
-                }
+                *told.entry((facts.opcode, code)).or_default() += mends_that_help(&recipe, k);
                 if facts.opcode == FMOD {
                     // The nearest remainder of the same operands is refused for the same reason.
                     let mut recipe = recipe;
-                    let line = form_of(&recipe).line() * k;
-                    recipe.replace_range(line..line + 2, &format!("{REMAINDER:02x}"));
+                    recipe.replace_range(39 * k..39 * k + 2, &format!("{REMAINDER:02x}"));
                     *told.entry((REMAINDER, code)).or_default() += mends_that_help(&recipe, k);
                 }
             }
         }
     }
-    assert!(
-        long.otherwise >= 20 && long.put >= 20,
-        "in the long form: {long:?}"
-    );
     let count = |is_counted: &dyn Fn(u8, u8) -> bool| -> usize {
         let counted = told
             .iter()

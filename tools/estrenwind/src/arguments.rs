@@ -5,19 +5,18 @@ use crate::failure::Failure;
 use crate::help;
 use crate::run::RunOptions;
 use crate::shard::Shard;
-use crate::sheet::Layout;
+use crate::sheet::Form;
 use std::ffi::OsString;
 use std::path::PathBuf;
 
 /// What is to be done.
 pub enum Command {
     Check(Vec<PathBuf>),
-    Sheet(PathBuf, Layout),
+    Sheet(PathBuf, Form),
     Explain(PathBuf),
     Run(PathBuf, RunOptions),
     Join(Vec<PathBuf>, Option<PathBuf>),
-    /// Whether in the long form, however few steps there are.
-    Assemble(PathBuf, Option<PathBuf>, bool),
+    Assemble(PathBuf, Option<PathBuf>),
     Disassemble(PathBuf, Option<PathBuf>),
     Help(&'static str),
     Version,
@@ -42,7 +41,7 @@ const VERBS: [Verb; 7] = [
         &["-o", "--trace", "--shard"],
     ),
     verb("join", help::JOIN, &[], &["-o"]),
-    verb("asm", help::ASM, &["--long"], &["-o"]),
+    verb("asm", help::ASM, &[], &["-o"]),
     verb("dis", help::DIS, &[], &["-o"]),
 ];
 
@@ -200,17 +199,17 @@ fn command(mut given: Given) -> Result<Command, Failure> {
     Ok(match given.verb.name {
         "check" => Command::Check(given.files),
         "sheet" => {
-            let layout = match (given.has("--hex"), given.has("--json")) {
-                (false, false) => Layout::Table,
-                (true, false) => Layout::Hexadecimal,
-                (false, true) => Layout::Json,
+            let form = match (given.has("--hex"), given.has("--json")) {
+                (false, false) => Form::Table,
+                (true, false) => Form::Hexadecimal,
+                (false, true) => Form::Json,
                 (true, true) => return Err(usage("--hex and --json are two forms: choose one")),
             };
-            Command::Sheet(given.one_file()?, layout)
+            Command::Sheet(given.one_file()?, form)
         }
         "explain" => Command::Explain(given.one_file()?),
         "join" => Command::Join(given.files, output),
-        "asm" => Command::Assemble(given.one_file()?, output, given.has("--long")),
+        "asm" => Command::Assemble(given.one_file()?, output),
         "dis" => Command::Disassemble(given.one_file()?, output),
         _ => run_command(given)?,
     })
@@ -275,22 +274,18 @@ mod tests {
         assert!(matches!(parsed("check a b"), Ok(Command::Check(files)) if files.len() == 2));
         assert!(matches!(
             parsed("sheet --json a"),
-            Ok(Command::Sheet(_, Layout::Json))
+            Ok(Command::Sheet(_, Form::Json))
         ));
         assert!(matches!(
             parsed("sheet a --hex"),
-            Ok(Command::Sheet(_, Layout::Hexadecimal))
+            Ok(Command::Sheet(_, Form::Hexadecimal))
         ));
         assert!(
-            matches!(parsed("asm a -o b"), Ok(Command::Assemble(_, Some(out), false)) if out.as_os_str() == "b")
+            matches!(parsed("asm a -o b"), Ok(Command::Assemble(_, Some(out))) if out.as_os_str() == "b")
         );
         assert!(
-            matches!(parsed("asm -ob a"), Ok(Command::Assemble(_, Some(out), false)) if out.as_os_str() == "b")
+            matches!(parsed("asm -ob a"), Ok(Command::Assemble(_, Some(out))) if out.as_os_str() == "b")
         );
-        assert!(matches!(
-            parsed("asm --long a"),
-            Ok(Command::Assemble(_, None, true))
-        ));
         assert!(
             matches!(parsed("dis -- -o"), Ok(Command::Disassemble(file, None)) if file.as_os_str() == "-o")
         );
@@ -330,8 +325,6 @@ mod tests {
             ("sheet a b", "sheet takes one file"),
             ("sheet --hex --json a", "choose one"),
             ("sheet --jsn a", "did you mean --json?"),
-            ("asm --lnog a", "did you mean --long?"),
-            ("dis --long a", "dis has no option --long"),
             ("run a b c", "one file of frames"),
             ("run -", "both come from standard input"),
             ("run - -", "both come from standard input"),

@@ -131,7 +131,7 @@ pub fn refusal_text(recipe: &Recipe, refused: TurnedDown, decimal: bool) -> Stri
 #[cfg(test)]
 mod tests {
     use super::*;
-    use estrenwind::{Step, MOST_STEPS};
+    use estrenwind::Step;
 
     /// Inputs x, a double, and n, a whole number; the name of the answer is y.
     fn recipe() -> Recipe {
@@ -168,7 +168,7 @@ mod tests {
 
     fn answer(line: &str) -> String {
         let recipe = recipe();
-        let answer = estrenwind::run(&recipe.text, frame(line).as_bytes(), &mut [0; MOST_STEPS]);
+        let answer = estrenwind::run(&recipe.text, frame(line).as_bytes(), &mut [0; 128]);
         answer_text(&recipe, answer)
     }
 

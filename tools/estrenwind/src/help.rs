@@ -10,12 +10,11 @@ Recipes of roundings, as people write and read them:
   explain FILE          why there is no sheet, and what would mend it
   run FILE [FRAMES]     answer frames, from a file or standard input
   join PART..           put the parts of a run with --shard together again
-  asm FILE              the text form as hexadecimal digits
-  dis FILE              hexadecimal digits as the text form
+  asm FILE              the text form as the hexadecimal one
+  dis FILE              the hexadecimal form as the text one
   help [COMMAND]        this, or the options of a command
 
-FILE is a recipe of at most 512 steps, as text or as hexadecimal digits (the
-short form or the long one); - is standard input. The text form:
+FILE is a recipe in either form, - for standard input. The text form:
 
   u = input 0 .. 1        # a double; whole numbers: input whole -3 .. 12
   scaled = ldexp u 8      # operations have the names that they have in C
@@ -34,7 +33,7 @@ tests hold sheets and runs to those of the proved programs, byte for byte.
 pub const CHECK: &str = "\
 usage: estrenwind check FILE..
 
-Says of each recipe, in any form, whether it is read and has a sheet. A slip
+Says of each recipe, in either form, whether it is read and has a sheet. A slip
 is shown with its line, its column and what to do about it.
 
 Exit status: 0 all are read and have sheets, 3 some is not or has none.
@@ -70,7 +69,7 @@ usage: estrenwind run [OPTION].. FILE [FRAMES]
 
 Answers each frame, a line of FRAMES or of standard input, with a line: 16
 hexadecimal digits per input go in, kind and value come out, or ff, the number
-of a refusal and its place: 2 digits, and 4 if the recipe is in the long form.
+of a refusal and its place.
 
   --decimal      frames and answers in decimal: numbers with spaces between
   --trace N      show every step of frame N alone (from 1, the line's number)
@@ -95,15 +94,10 @@ not all parts of one run, or input or output failed.
 ";
 
 pub const ASM: &str = "\
-usage: estrenwind asm [--long] [-o OUT] FILE
+usage: estrenwind asm [-o OUT] FILE
 
-Writes a recipe as hexadecimal digits, which the library and the programs read:
-in the short form where it has at most 128 steps, else in the long one, which
-has at most 512. Slips in the text are shown with line and column, and what to
-do.
-
-  --long    the long form, however few the steps
-  -o OUT    write to a file, which is replaced when all is written
+Writes a recipe in the hexadecimal form, which the library and the programs
+read. Slips in the text are shown with line and column, and what to do.
 
 Exit status: 0 it is written, 3 the recipe was refused.
 ";
@@ -111,9 +105,8 @@ Exit status: 0 it is written, 3 the recipe was refused.
 pub const DIS: &str = "\
 usage: estrenwind dis [-o OUT] FILE
 
-Writes a recipe in the text form; asm of that gives the same bytes again. (For a
-recipe in the long form with at most 128 steps, ask asm for the long form.)
-Steps without a name are called s and their number.
+Writes a recipe in the text form; asm of that gives the same bytes again. Steps
+without a name are called s and their number.
 
 Exit status: 0 it is written, 3 the recipe was refused.
 ";

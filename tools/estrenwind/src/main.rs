@@ -68,13 +68,12 @@ fn say(text: &str) {
 fn obey(command: Command) -> Result<Status, Failure> {
     match command {
         Command::Check(files) => check_all(&files),
-        Command::Sheet(file, layout) => show(sheet::sheet(&recipe_file::open(&file)?, layout)),
+        Command::Sheet(file, form) => show(sheet::sheet(&recipe_file::open(&file)?, form)),
         Command::Explain(file) => show(explain::explain(&recipe_file::open(&file)?)),
         Command::Run(file, options) => run::run(&recipe_file::open(&file)?, &options),
         Command::Join(parts, output) => join::join(&parts, output.as_deref()),
-        Command::Assemble(file, output, long) => {
-            let recipe = recipe_file::open(&file)?;
-            write(output.as_deref(), &recipe.assembled(long))
+        Command::Assemble(file, output) => {
+            write(output.as_deref(), &recipe_file::open(&file)?.text)
         }
         Command::Disassemble(file, output) => {
             let text = disassemble::disassemble(&recipe_file::open(&file)?);

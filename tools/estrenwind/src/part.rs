@@ -119,10 +119,7 @@ mod tests {
     #[test]
     fn endings() {
         let mut tally = Tally::new();
-        tally.count(
-            b"013ff0000000000000\nff2000\nff1402\nff2001\n",
-            estrenwind::Form::Short,
-        );
+        tally.count(b"013ff0000000000000\nff2000\nff1402\nff2001\n");
         tally.frames = 4;
         let ending = Ending {
             shard: SHARD,

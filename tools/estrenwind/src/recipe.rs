@@ -1,14 +1,14 @@
 //! A recipe with names for its steps, whichever form it was written in.
 
 use crate::number;
-use estrenwind::{Form, Kind, Operation, Step};
+use estrenwind::{Kind, Operation, Step};
 
 /// A recipe that the library reads.
 #[derive(Clone, Debug)]
 pub struct Recipe {
     /// The name of its file, for messages.
     pub file: String,
-    /// The lines that the library reads, in the form that the file has them in.
+    /// The lines that the library reads.
     pub text: Vec<u8>,
     /// The same as values.
     pub steps: Vec<Step>,
@@ -46,34 +46,17 @@ impl Recipe {
         text
     }
 
-    /// The form of its lines, which is also that of its sheet and of its refusals.
-    pub fn form(&self) -> Form {
-        Form::of(&self.text).unwrap_or_default()
-    }
-
     /// The first steps alone, as a recipe.
     pub fn front(&self, count: usize) -> Vec<u8> {
         text_of(&self.steps[..count])
     }
-
-    /// Its lines as `asm` writes them: in the short form where that has room for them, unless the long one is asked for.
-    pub fn assembled(&self, long: bool) -> Vec<u8> {
-        match long {
-            true => text_in(Form::Long, &self.steps),
-            false => text_of(&self.steps),
-        }
-    }
 }
 
-/// The lines of some steps, in the short form where that has room for them.
+/// The lines of some steps.
 pub fn text_of(steps: &[Step]) -> Vec<u8> {
-    text_in(Form::for_steps(steps.len()), steps)
-}
-
-fn text_in(form: Form, steps: &[Step]) -> Vec<u8> {
     steps
         .iter()
-        .flat_map(|step| step.line(form).into_bytes())
+        .flat_map(|step| step.line().into_bytes())
         .collect()
 }
 

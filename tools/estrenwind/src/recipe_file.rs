@@ -1,4 +1,4 @@
-//! Recipes from files: in the text form, or as the digits that the library reads.
+//! Recipes from files, in either form.
 
 use crate::assemble::assemble;
 use crate::colour::Colour;
@@ -7,7 +7,7 @@ use crate::failure::Failure;
 use crate::recipe::{plain_name, Recipe};
 use crate::slips;
 use crate::source::Source;
-use estrenwind::{explain, refusal_line, steps, Form};
+use estrenwind::{explain, refusal_line, steps};
 use std::ffi::OsStr;
 use std::io;
 use std::path::Path;
@@ -37,7 +37,7 @@ fn read(path: &Path) -> Result<(String, Vec<u8>), Failure> {
     }
 }
 
-/// A recipe in any form. One that is not read is shown with its slips.
+/// A recipe in either form. One that is not read is shown with its slips.
 pub fn open(path: &Path) -> Result<Recipe, Failure> {
     let (name, bytes) = read(path)?;
     let recipe = if is_text_form(path, &bytes) {
@@ -88,7 +88,7 @@ fn from_hexadecimal(name: &str, bytes: &[u8]) -> Result<Recipe, Vec<Diagnostic>>
         slip.message = format!(
             "refused {} ({}): {}",
             refused.fault.number(),
-            refusal_line(refused, Form::of(bytes).unwrap_or_default()),
+            refusal_line(refused),
             slip.message
         );
         return Err(vec![slip]);

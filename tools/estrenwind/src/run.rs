@@ -10,7 +10,7 @@ use crate::recipe::Recipe;
 use crate::shard::{Blocks, Shard};
 use crate::tally::Tally;
 use crate::trace::trace;
-use estrenwind::{read_answer, run_lines, Form, MOST_FRAME};
+use estrenwind::{read_answer, run_lines, MOST_FRAME};
 use std::path::PathBuf;
 
 /// Bytes of answers that are written at once, at most.
@@ -97,8 +97,6 @@ pub fn run(recipe: &Recipe, options: &RunOptions) -> Result<Status, Failure> {
 /// A run under way.
 struct Run<'a> {
     recipe: &'a Recipe,
-    /// The recipe's, in which refusals are written.
-    form: Form,
     /// None where frames and answers are hexadecimal.
     decimal: Option<FrameWriter>,
     output: Output,
@@ -111,7 +109,6 @@ impl<'a> Run<'a> {
     fn new(recipe: &'a Recipe, options: &RunOptions) -> Result<Run<'a>, Failure> {
         Ok(Run {
             recipe,
-            form: recipe.form(),
             decimal: options.decimal.then(|| FrameWriter::new(recipe)),
             output: options.open_output()?,
             tally: Tally::new(),
@@ -162,7 +159,7 @@ impl<'a> Run<'a> {
             None => self.output.write(answers)?,
             Some(_) => write_decimal(&mut self.output, self.recipe, answers)?,
         }
-        self.tally.count(answers, self.form);
+        self.tally.count(answers);
         Ok(())
     }
 

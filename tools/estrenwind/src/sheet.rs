@@ -6,11 +6,11 @@ use crate::json;
 use crate::number;
 use crate::recipe::Recipe;
 use crate::table::{table, wrapped, Row};
-use estrenwind::{refusal_line, Form, Range, TurnedDown, MOST_SHEET};
+use estrenwind::{refusal_line, Range, TurnedDown, MOST_SHEET, SHEET_LINE};
 
 /// How a sheet is written.
 #[derive(Clone, Copy, Debug, PartialEq, Eq)]
-pub enum Layout {
+pub enum Form {
     Table,
     Hexadecimal,
     Json,
@@ -23,16 +23,11 @@ pub struct Shown {
     pub status: Status,
 }
 
-/// Bytes of a line of a recipe's sheet.
-fn line_of(recipe: &[u8]) -> usize {
-    Form::of(recipe).unwrap_or_default().sheet_line()
-}
-
 /// The library's lines of a recipe.
 fn lines(recipe: &[u8]) -> Result<Vec<u8>, TurnedDown> {
     let mut lines = vec![0; MOST_SHEET];
     let steps = estrenwind::sheet(recipe, &mut lines)?;
-    lines.truncate(line_of(recipe) * steps);
+    lines.truncate(SHEET_LINE * steps);
     Ok(lines)
 }
 
@@ -40,30 +35,30 @@ fn lines(recipe: &[u8]) -> Result<Vec<u8>, TurnedDown> {
 pub fn ranges(recipe: &[u8]) -> Result<Vec<Range>, TurnedDown> {
     let read = |line: &[u8]| line.strip_suffix(b"\n").and_then(Range::read);
     let ranges = lines(recipe)?
-        .chunks(line_of(recipe))
+        .chunks(SHEET_LINE)
         .map(read)
         .collect::<Option<_>>();
     Ok(ranges.expect("the library writes the lines that its crate reads"))
 }
 
-pub fn sheet(recipe: &Recipe, layout: Layout) -> Shown {
+pub fn sheet(recipe: &Recipe, form: Form) -> Shown {
     match ranges(&recipe.text) {
         Ok(ranges) => Shown {
-            output: match layout {
-                Layout::Table => as_table(recipe, &ranges),
-                Layout::Hexadecimal => {
+            output: match form {
+                Form::Table => as_table(recipe, &ranges),
+                Form::Hexadecimal => {
                     String::from_utf8_lossy(&lines(&recipe.text).unwrap_or_default()).into_owned()
                 }
-                Layout::Json => as_json(recipe, &ranges),
+                Form::Json => as_json(recipe, &ranges),
             },
             message: String::new(),
             status: Status::Well,
         },
         Err(refused) => Shown {
-            output: match layout {
-                Layout::Table => String::new(),
-                Layout::Hexadecimal => format!("{}\n", refusal_line(refused, recipe.form())),
-                Layout::Json => refusal_json(recipe, refused),
+            output: match form {
+                Form::Table => String::new(),
+                Form::Hexadecimal => format!("{}\n", refusal_line(refused)),
+                Form::Json => refusal_json(recipe, refused),
             },
             message: explain::explain(recipe).output,
             status: Status::RecipeRefused,

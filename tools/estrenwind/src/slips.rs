@@ -2,30 +2,12 @@
 
 use crate::diagnostic::Diagnostic;
 use crate::number::grouped;
-use estrenwind::{Fault, Field, Form, Kind, Step, TurnedDown, FRAME_INPUT};
-use std::cmp::Ordering;
-
-const FORMS: [Form; 2] = [Form::Short, Form::Long];
-
-fn name_of(form: Form) -> &'static str {
-    match form {
-        Form::Long => "long",
-        _ => "short",
-    }
-}
+use estrenwind::{
+    Fault, Field, Kind, Step, TurnedDown, FRAME_INPUT, MOST_STEPS, RECIPE_LINE, STEP_FIELDS,
+};
 
 /// Digits of a line.
-fn digits_of(form: Form) -> usize {
-    form.recipe_line() - 1
-}
-
-/// `opcode 2, A 2, B 2, P 16, Q 16`
-fn fields_of(form: Form) -> String {
-    let fields = form
-        .fields()
-        .map(|field| format!("{} {}", field.name, field.digits));
-    fields.join(", ")
-}
+const DIGITS: usize = RECIPE_LINE - 1;
 
 fn slip(
     line: usize,
@@ -100,15 +82,9 @@ fn in_bytes(text: &[u8]) -> Option<Diagnostic> {
         ));
     }
     let all: &[&[u8]] = if last.is_empty() { whole } else { &lines };
-    let told = Form::of(text);
-    let form = told.unwrap_or_else(|| likely_form(all));
     for (k, line) in all.iter().enumerate() {
-        let found = match told {
-            None if k == 0 => in_first_line(form, line),
-            _ => in_line(form, k, line, &all[k..]),
-        };
-        if found.is_some() {
-            return found;
+        if let Some(found) = in_line(k, line, &all[k..]) {
+            return Some(found);
         }
     }
     if !last.is_empty() {
@@ -120,90 +96,33 @@ fn in_bytes(text: &[u8]) -> Option<Diagnostic> {
             "end it with one: press Enter at its end, or echo >>file",
         ));
     }
-    (all.len() > form.most_steps()).then(|| too_many(form, all.len()))
-}
-
-fn too_many(form: Form, count: usize) -> Diagnostic {
-    let (name, most) = (name_of(form), form.most_steps());
-    let help = match count > Form::Long.most_steps() {
-        true => "split the recipe",
-        // Two zeros before A, and two before B.
-        false => "put it in the long form: sed 's/^../&00/; s/^....../&00/' <old >new",
-    };
-    slip(
-        most + 1,
-        1,
-        digits_of(form),
-        format!(
-            "{} steps, and a recipe in the {name} form has {most} at most",
-            grouped(count as u64)
-        ),
-        help,
-    )
-}
-
-/// The form that was most likely meant by lines of which the first tells none: that of most lines, or else the nearer one to the first.
-fn likely_form(lines: &[&[u8]]) -> Form {
-    let count = |form: Form| {
-        let of_form = lines.iter().filter(|line| line.len() == digits_of(form));
-        of_form.count()
-    };
-    let first = lines.first().map_or(0, |line| line.len());
-    let distance = |form: &Form| digits_of(*form).abs_diff(first);
-    let nearer = FORMS.into_iter().min_by_key(distance);
-    match count(Form::Short).cmp(&count(Form::Long)) {
-        Ordering::Greater => Form::Short,
-        Ordering::Less => Form::Long,
-        Ordering::Equal => nearer.unwrap_or_default(),
-    }
-}
-
-/// The slip of a byte that is no digit, in line k.
-fn strange_byte_in(k: usize, line: &[u8]) -> Option<Diagnostic> {
-    let place = line
-        .iter()
-        .position(|byte| !matches!(byte, b'0'..=b'9' | b'a'..=b'f'))?;
-    Some(strange_byte(k, line, place))
-}
-
-/// Where a line has too few digits or too many for a form: the column and how many characters.
-fn length_place(form: Form, count: usize) -> (usize, usize) {
-    let digits = digits_of(form);
-    (count.min(digits) + 1, count.saturating_sub(digits).max(1))
-}
-
-/// The slip of the first line where it tells no form; none where it has just lost its line feed.
-fn in_first_line(form: Form, line: &[u8]) -> Option<Diagnostic> {
-    if line.is_empty() {
-        return Some(empty_line(0, &[]));
-    }
-    let strange = strange_byte_in(0, line);
-    if strange.is_some() || line.len() == digits_of(form) {
-        return strange;
-    }
-    let count = line.len();
-    let (column, length) = length_place(form, count);
-    let after = FORMS.map(|form| {
-        let (digits, name, fields) = (digits_of(form), name_of(form), fields_of(form));
-        format!("after {digits} digits it tells the {name} form ({fields})")
-    });
-    Some(slip(
-        1,
-        column,
-        length,
-        format!("a first line of {count} digits, which tells no form"),
-        format!("put the first line feed elsewhere: {}", after.join(", ")),
-    ))
+    (all.len() > MOST_STEPS).then(|| {
+        slip(
+            MOST_STEPS + 1,
+            1,
+            DIGITS,
+            format!(
+                "{} steps, and a recipe has {MOST_STEPS} at most",
+                grouped(all.len() as u64)
+            ),
+            "split the recipe",
+        )
+    })
 }
 
 /// The slip of line k, with which these lines begin.
-fn in_line(form: Form, k: usize, line: &[u8], rest: &[&[u8]]) -> Option<Diagnostic> {
+fn in_line(k: usize, line: &[u8], rest: &[&[u8]]) -> Option<Diagnostic> {
     if line.is_empty() {
         return Some(empty_line(k, &rest[1..]));
     }
-    let strange = strange_byte_in(k, line);
-    if strange.is_some() || line.len() == digits_of(form) {
-        return strange;
+    let strange = line
+        .iter()
+        .position(|byte| !matches!(byte, b'0'..=b'9' | b'a'..=b'f'));
+    if let Some(place) = strange {
+        return Some(strange_byte(k, line, place));
+    }
+    if line.len() == DIGITS {
+        return None;
     }
     if k > 0 && are_frames(rest) {
         return Some(slip(
@@ -214,37 +133,30 @@ fn in_line(form: Form, k: usize, line: &[u8], rest: &[&[u8]]) -> Option<Diagnost
             "put them in a file of their own: estrenwind run RECIPE FRAMES",
         ));
     }
-    let (count, digits) = (line.len(), digits_of(form));
-    let (column, length) = length_place(form, count);
-    let other = FORMS.into_iter().find(|&form| digits_of(form) == count);
-    if let Some(other) = other {
-        let (name, other) = (name_of(form), name_of(other));
-        return Some(slip(
-            k + 1,
-            column,
-            length,
-            format!("a line of the {other} form, and the first line tells the {name} form"),
-            format!(
-                "write all lines in one form; in the {name} one: {}",
-                fields_of(form)
-            ),
-        ));
-    }
-    let wrong = if count + 1 == digits {
+    let count = line.len();
+    let wrong = if count + 1 == DIGITS {
         "one is missing"
-    } else if count == digits + 1 {
+    } else if count == DIGITS + 1 {
         "one is too many"
-    } else if count < digits {
+    } else if count < DIGITS {
         "some are missing"
     } else {
         "some are too many, or a line feed is missing"
     };
+    let fields = STEP_FIELDS.map(|field| format!("{} {}", field.name, field.digits));
+    let help = format!("{wrong}: {}", fields.join(", "));
+    let place = if count < DIGITS {
+        count + 1
+    } else {
+        DIGITS + 1
+    };
+    let length = count.saturating_sub(DIGITS).max(1);
     Some(slip(
         k + 1,
-        column,
+        place,
         length,
-        format!("a line of {count} digits, and {digits} are needed"),
-        format!("{wrong}: {}", fields_of(form)),
+        format!("a line of {count} digits, and {DIGITS} are needed"),
+        help,
     ))
 }
 
@@ -340,11 +252,10 @@ fn in_step(text: &[u8], refused: TurnedDown) -> Option<Diagnostic> {
             help,
         ))
     };
-    let fields = Form::of(text)?.fields();
-    let field = |i: usize| &fields[i..=i];
+    let field = |i: usize| &STEP_FIELDS[i..=i];
     let digits = line(k)?;
     if refused.fault == Fault::Opcode {
-        let opcode = fields[OPCODE].read(digits)?;
+        let opcode = STEP_FIELDS[OPCODE].read(digits)?;
         return at(
             field(OPCODE),
             format!("there is no opcode {opcode:02x}"),
@@ -358,7 +269,7 @@ fn in_step(text: &[u8], refused: TurnedDown) -> Option<Diagnostic> {
         Fault::Unused => {
             let (values, used) = (step.values(), step.operation.uses());
             let i = (0..values.len()).find(|&i| values[i] != 0 && !used[i])?;
-            let unused = fields[i].name;
+            let unused = STEP_FIELDS[i].name;
             at(
                 field(i),
                 format!("{name} does not use {unused}, which is not zero"),
@@ -367,7 +278,7 @@ fn in_step(text: &[u8], refused: TurnedDown) -> Option<Diagnostic> {
         }
         Fault::Ahead => {
             let i = operands.iter().position(|&operand| operand >= k)?;
-            let (place, operand) = (fields[A + i].name, operands[i]);
+            let (place, operand) = (STEP_FIELDS[A + i].name, operands[i]);
             at(
                 field(A + i),
                 format!("{place} is step {operand}, which does not stand before step {k}"),
@@ -390,7 +301,7 @@ fn in_step(text: &[u8], refused: TurnedDown) -> Option<Diagnostic> {
                     "put to_double (32) between, or use a double constant (03)",
                 ),
             };
-            let (place, operand) = (fields[A + i].name, operands[i]);
+            let (place, operand) = (STEP_FIELDS[A + i].name, operands[i]);
             at(
                 field(A + i),
                 format!("{place} is step {operand}, {is}, and {name} needs {need} there"),
@@ -403,11 +314,11 @@ fn in_step(text: &[u8], refused: TurnedDown) -> Option<Diagnostic> {
             match [P, P + 1].into_iter().find(is_nan) {
                 Some(i) => at(
                     field(i),
-                    format!("{} is a NaN", fields[i].name),
+                    format!("{} is a NaN", STEP_FIELDS[i].name),
                     "write a number",
                 ),
                 None => at(
-                    &fields[P..],
+                    &STEP_FIELDS[P..],
                     "the low end P is above the high end Q".to_owned(),
                     "exchange P and Q; of negative doubles the larger pattern is the smaller number",
                 ),
@@ -429,8 +340,6 @@ mod tests {
 
     const INPUT: &str = "010000c004000000000000401d000000000000\n";
     const FLOOR: &str = "10000000000000000000000000000000000000\n";
-    const LONG_INPUT: &str = "0100000000c004000000000000401d000000000000\n";
-    const LONG_FLOOR: &str = "100000000000000000000000000000000000000000\n";
 
     /// What is told of a text: line, column, message. The library must have refused it.
     fn told(text: &[u8]) -> (usize, usize, String) {
@@ -527,126 +436,8 @@ mod tests {
             INPUT.repeat(129),
             129,
             1,
-            "129 steps, and a recipe in the short form has 128 at most",
+            "129 steps, and a recipe has 128 at most",
         );
-    }
-
-    /// The same slips in the long form, whose lines have 42 digits.
-    #[test]
-    fn every_slip_of_the_long_form_has_its_words() {
-        let recipe = format!("{LONG_INPUT}{LONG_FLOOR}");
-        expect(recipe.replace('\n', "\r\n"), 1, 43, "CR LF");
-        expect(
-            format!("{recipe}\n"),
-            3,
-            1,
-            "an empty line after the last step",
-        );
-        expect(
-            format!("{recipe}bfe0000000000000\n"),
-            3,
-            1,
-            "frames are left on the end of the recipe",
-        );
-        expect(recipe.replace("c004", "C0D4"), 1, 11, "upper case");
-        for (count, words) in [
-            (41, "a line of 41 digits, and 42 are needed"),
-            (30, "a line of 30 digits, and 42 are needed"),
-        ] {
-            let text = format!("{LONG_INPUT}{}\n", &LONG_FLOOR[..count]);
-            expect(text, 2, count + 1, words);
-        }
-        expect(
-            format!("{LONG_INPUT}0{LONG_FLOOR}"),
-            2,
-            43,
-            "a line of 43 digits, and 42 are needed",
-        );
-        expect(recipe.trim_end(), 2, 43, "the last line has no line feed");
-        expect(
-            format!("{LONG_INPUT}{FLOOR}"),
-            2,
-            39,
-            "a line of the short form, and the first line tells the long form",
-        );
-        expect(
-            format!("{INPUT}{LONG_FLOOR}"),
-            2,
-            39,
-            "a line of the long form, and the first line tells the short form",
-        );
-        expect(
-            LONG_INPUT.repeat(513),
-            513,
-            1,
-            "513 steps, and a recipe in the long form has 512 at most",
-        );
-    }
-
-    /// A first line that tells no form: what its line feed would have to be, where most lines say that it should stand.
-    #[test]
-    fn a_text_that_tells_no_form() {
-        let short = format!("{INPUT}{FLOOR}{FLOOR}");
-        let long = format!("{LONG_INPUT}{LONG_FLOOR}{LONG_FLOOR}");
-        let words = |count: usize| format!("a first line of {count} digits, which tells no form");
-        // A digit less and a digit more, among lines of a form.
-        expect(&short[1..], 1, 38, &words(37));
-        expect(format!("0{short}"), 1, 39, &words(39));
-        expect(&long[1..], 1, 42, &words(41));
-        expect(format!("0{long}"), 1, 43, &words(43));
-        expect(&long[2..], 1, 41, &words(40));
-        expect(format!("000{short}"), 1, 39, &words(41));
-        // Alone: the nearer form.
-        for (count, column) in [
-            (1, 2),
-            (37, 38),
-            (39, 39),
-            (40, 39),
-            (41, 42),
-            (43, 43),
-            (90, 43),
-        ] {
-            let line = "0".repeat(count);
-            expect(format!("{line}\n"), 1, column, &words(count));
-            expect(line, 1, column, &words(count));
-        }
-        // What else is wrong with it is told before.
-        expect("# a comment\n", 1, 1, "a comment");
-        expect(format!(" {short}"), 1, 1, "a space among the digits");
-        expect(format!("\n{long}"), 1, 1, "begins with an empty line");
-        // Right but for its line feed.
-        for line in [INPUT, LONG_INPUT] {
-            let digits = line.trim_end();
-            expect(
-                digits,
-                1,
-                digits.len() + 1,
-                "the last line has no line feed",
-            );
-        }
-        let untold = &short[1..];
-        let found = find(untold.as_bytes(), explain(untold.as_bytes()).unwrap_err());
-        assert_eq!(
-            found.help,
-            "put the first line feed elsewhere: after 38 digits it tells the short form (opcode 2, A 2, B 2, P 16, Q 16), \
-             after 42 digits it tells the long form (opcode 2, A 4, B 4, P 16, Q 16)"
-        );
-    }
-
-    /// Each form's own count: the short form's is told where the long one would do.
-    #[test]
-    fn too_many_steps() {
-        let help = |text: String| {
-            let refused = explain(text.as_bytes()).expect_err("the library refuses it");
-            find(text.as_bytes(), refused).help
-        };
-        assert_eq!(
-            help(INPUT.repeat(129)),
-            "put it in the long form: sed 's/^../&00/; s/^....../&00/' <old >new"
-        );
-        assert_eq!(help(INPUT.repeat(512)), help(INPUT.repeat(129)));
-        assert_eq!(help(INPUT.repeat(513)), "split the recipe");
-        assert_eq!(help(LONG_INPUT.repeat(513)), "split the recipe");
     }
 
     #[test]
@@ -768,77 +559,21 @@ mod tests {
         expect(INPUT.repeat(17), 17, 1, "a seventeenth input");
     }
 
-    /// In the long form B begins at column 7, P at 11 and Q at 27; steps are told in decimal.
-    #[test]
-    fn every_refusal_of_a_step_of_the_long_form_has_its_field() {
-        let step = |line: &str| format!("{LONG_INPUT}{line:0<42}\n");
-        expect(step("99"), 2, 1, "there is no opcode 99");
-        expect(step("1000000001"), 2, 7, "floor does not use B");
-        expect(
-            step("10000000000000000000000001"),
-            2,
-            11,
-            "floor does not use P",
-        );
-        expect(
-            step("030000000000000000000000000000000000000001"),
-            2,
-            27,
-            "constant does not use Q",
-        );
-        expect(step("010001"), 2, 3, "input does not use A");
-        expect(
-            step("20000001ff"),
-            2,
-            7,
-            "B is step 511, which does not stand before step 1",
-        );
-        expect(
-            step("10ffff"),
-            2,
-            3,
-            "A is step 65535, which does not stand before step 1",
-        );
-        expect(
-            step("23"),
-            2,
-            7,
-            "B is step 0, a double, and ldexp needs a whole number there",
-        );
-        expect(step("03000000007ff8"), 2, 11, "P is a NaN");
-        expect(step("010000000000000000000000007ff8"), 2, 27, "Q is a NaN");
-        expect(step("01000000003ff0"), 2, 11, "above the high end");
-        expect(LONG_INPUT.repeat(17), 17, 1, "a seventeenth input");
-        // Far into a recipe.
-        let far = format!("{LONG_INPUT}{}{:0<42}\n", LONG_FLOOR.repeat(399), "1001f4");
-        expect(
-            far,
-            401,
-            3,
-            "A is step 500, which does not stand before step 400",
-        );
-    }
-
     #[test]
     fn noise_is_told_something() {
         let mut word = 1u64;
-        for recipe in [
-            format!("{INPUT}{FLOOR}"),
-            format!("{LONG_INPUT}{LONG_FLOOR}"),
-        ] {
-            for _ in 0..20_000 {
-                let mut text = recipe.clone().into_bytes();
-                for _ in 0..3 {
-                    word = word
-                        .wrapping_mul(6364136223846793005)
-                        .wrapping_add(1442695040888963407);
-                    let place = (word >> 33) as usize % text.len();
-                    text[place] = (word >> 24) as u8;
-                }
-                if let Err(refused) = explain(&text) {
-                    let found = find(&text, refused);
-                    assert!(found.line >= 1 && found.column >= 1 && found.length >= 1);
-                }
+        for _ in 0..20_000 {
+            let mut text = format!("{INPUT}{FLOOR}").into_bytes();
+            for _ in 0..3 {
+                word = word
+                    .wrapping_mul(6364136223846793005)
+                    .wrapping_add(1442695040888963407);
+                let place = (word >> 33) as usize % text.len();
+                text[place] = (word >> 24) as u8;
+            }
+            if let Err(refused) = explain(&text) {
+                let found = find(&text, refused);
+                assert!(found.line >= 1 && found.column >= 1 && found.length >= 1);
             }
         }
     }

@@ -3,7 +3,7 @@
 use crate::failure::Status;
 use crate::number::grouped;
 use crate::progress::frames;
-use estrenwind::{read_answer, Form, ANSWER_LINE, REFUSAL_MARK};
+use estrenwind::{read_answer, ANSWER_LINE, REFUSAL_LINE, REFUSAL_MARK};
 
 /// Counts of a run.
 #[derive(Clone, Debug, PartialEq, Eq)]
@@ -24,21 +24,20 @@ impl Tally {
         }
     }
 
-    /// Counts lines of answers as the library writes them for a recipe in this form. What is neither an answer nor a refusal is not counted, so that
-    /// the two counts differ at the end.
-    pub fn count(&mut self, answers: &[u8], form: Form) {
+    /// Counts lines of answers as the library writes them. What is neither an answer nor a refusal is not counted, so that the two counts differ at
+    /// the end.
+    pub fn count(&mut self, answers: &[u8]) {
         let mut rest = answers;
         while !rest.is_empty() {
             let is_refusal = rest.starts_with(REFUSAL_MARK);
             let length = if is_refusal {
-                form.refusal_line()
+                REFUSAL_LINE
             } else {
                 ANSWER_LINE
             };
             let (line, after) = rest.split_at(length.min(rest.len()));
             rest = after;
-            let whole = |line: &&[u8]| line.len() + 1 == length;
-            let Some(line) = line.strip_suffix(b"\n").filter(whole) else {
+            let Some(line) = line.strip_suffix(b"\n") else {
                 continue;
             };
             if !is_refusal {
@@ -118,15 +117,11 @@ impl Tally {
 mod tests {
     use super::*;
 
-    fn counted_in(form: Form, frames: u64, answers: &[u8]) -> Tally {
+    fn counted(frames: u64, answers: &[u8]) -> Tally {
         let mut tally = Tally::new();
         tally.frames = frames;
-        tally.count(answers, form);
+        tally.count(answers);
         tally
-    }
-
-    fn counted(frames: u64, answers: &[u8]) -> Tally {
-        counted_in(Form::Short, frames, answers)
     }
 
     #[test]
@@ -147,23 +142,6 @@ mod tests {
             counted(0, b"").line(),
             "estrenwind: 0 frames, 0 answered, 0 refused"
         );
-    }
-
-    /// Places of four digits.
-    #[test]
-    fn refusals_of_the_long_form() {
-        let answers = b"02ffffffffffffffff\nff200000\nff1401ff\n013ff0000000000000\nff2000ff\n";
-        let tally = counted_in(Form::Long, 5, answers);
-        assert_eq!(
-            tally.line(),
-            "estrenwind: 5 frames, 2 answered, 3 refused (20: 1, 32: 2)"
-        );
-        assert_eq!(tally.difference(), None);
-        // One of the short form is none of this one, and one that is cut off is none of either.
-        for answers in [&b"ff2000\n"[..], b"ff20000\n", b"ff200000"] {
-            let tally = counted_in(Form::Long, 1, answers);
-            assert_eq!(tally.difference().unwrap(), "1 frame, 0 answers");
-        }
     }
 
     #[test]

@@ -1,35 +1,62 @@
--- `explain` meets its contract: words are lent for as many steps as a text of so many bytes may have. Assumes nothing.
+-- `explain` meets its contract: a text that is refused is so by the reader, and of any other the explanation is that of the words read. Assumes
+-- nothing.
+use mathlib.Core.Path.{sym, ap, ◌∙◌}
+use Prim.Native.Nat.{◌*◌, ◌≤◌}
 use native.Mathlib.Omega.{arith}
-use borrow.Author.Tests.{le-leb, lt-leb}
+use lib.Seq.{length-take-le}
+use Rattle.recipe.specs.Text.{most_steps}
+use Rattle.recipe.proofs.Laws.{answer_count}
+use Rattle.semantics.specs.Explain.{answer_of}
+use Rattle.explaining.proofs.Calls.{text_refused, text_explained}
 use borrow.Author.Rules.{rules}
 use Rattle.explaining.proofs.explain.Statement.{statement}
 use Rattle.explaining.proofs.explain.Tie as tie
 
-slice-aggregate-explain-text : tie.Need-slice-aggregate-explain-text
-slice-aggregate-explain-text c = search rules
+-- the steps read fit
+fits : (c : tie.After-struct-known2) → c.before.before.before.before.read.result.count ≤ most_steps
+fits c = let g = c.before.before.before.before.read in (answer_count c.before.before.before.before.before.before.before.args.text.now g.result g.new.1.0 g.ensures.1 c.before.if1.false).1
 
-explain-text-requires : tie.Need-explain-text-requires
-explain-text-requires c κs = rw (le-leb _ _ c.before.if1.true) (omega arith)
+slice-aggregate-read : tie.Need-slice-aggregate-read
+slice-aggregate-read c = search rules
+
+read-requires : tie.Need-read-requires
+read-requires c κs = search rules
+
+refusal-requires : tie.Need-refusal-requires
+refusal-requires c κs = search rules
 
 returns : tie.Need-returns
-returns c = search rules
+returns c =
+    let g = c.before.before.before.before.read in
+    c.refusal.ensures ∙ ap answer_of (sym (text_refused c.before.before.before.before.before.before.before.args.text.now g.result g.new.1.0 g.ensures.1 c.before.if1.true))
 
-slice-aggregate-explain-text-2 : tie.Need-slice-aggregate-explain-text-2
-slice-aggregate-explain-text-2 c = search rules
+mul-size : tie.Need-overflow-mul-size
+mul-size c = omega (arith, fits c)
 
-explain-text-requires-2 : tie.Need-explain-text-requires-2
-explain-text-requires-2 c κs = rw (lt-leb _ _ c.before.if1.false) (omega arith)
+array-share-prefix-steps : tie.Need-array-share-prefix-steps
+array-share-prefix-steps c = omega (arith, fits c, c.before.before.before.before.read.ensures.0)
+
+slice-aggregate-explain-recipe : tie.Need-slice-aggregate-explain-recipe
+slice-aggregate-explain-recipe c = let g = c.before.before.before.before.before.read in sym (length-take-le (3 * g.result.count) g.new.1.0 (omega (arith, fits c.before, g.ensures.0)))
+
+explain-recipe-requires : tie.Need-explain-recipe-requires
+explain-recipe-requires c κs = search rules
 
 returns-2 : tie.Need-returns-2
-returns-2 c = search rules
+returns-2 c =
+    let g = c.before.before.before.before.before.before.read in
+    c.explain-recipe.ensures.0 ∙ ap answer_of (text_explained c.before.before.before.before.before.before.before.before.before.args.text.now g.result g.new.1.0 g.ensures.1 c.before.before.before.if1.false g.ensures.0)
 
 pub explain-spec : {M : Type 1} → statement M
 explain-spec =
     tie.close
     (tie.spec
-    slice-aggregate-explain-text
-    explain-text-requires
+    slice-aggregate-read
+    read-requires
+    refusal-requires
     returns
-    slice-aggregate-explain-text-2
-    explain-text-requires-2
+    mul-size
+    array-share-prefix-steps
+    slice-aggregate-explain-recipe
+    explain-recipe-requires
     returns-2)

@@ -1,44 +1,68 @@
--- `run` meets its contract: words are lent for as many steps as a text of so many bytes may have, and the promise is the text's. Assumes nothing.
+-- `run` meets its contract: a text that is refused is so by the reader, and of any other the words read are run. Assumes nothing.
+use mathlib.Core.Path.{refl, sym}
+use Prim.Native.Nat.{◌*◌, ◌≤◌}
 use native.Mathlib.Omega.{arith}
-use borrow.Author.Tests.{le-leb, lt-leb}
+use lib.ListN.{length}
+use lib.Seq.{length-take-le}
+use Rattle.recipe.specs.Text.{most_steps}
+use Rattle.recipe.proofs.Laws.{answer_count}
+use Rattle.running.proofs.Calls.{text_refused, text_run}
 use Rattle.running.proofs.Promises.{with_text_promise}
 use borrow.Author.Rules.{rules}
 use Rattle.running.proofs.run.Statement.{statement}
 use Rattle.running.proofs.run.Tie as tie
 
-slice-aggregate-run-text : tie.Need-slice-aggregate-run-text
-slice-aggregate-run-text c = search rules
+-- the steps read fit
+fits : (c : tie.After-struct-known2) → c.before.before.before.before.read.result.count ≤ most_steps
+fits c = let g = c.before.before.before.before.read in (answer_count c.before.before.before.before.before.before.before.before.before.args.text.now g.result g.new.1.0 g.ensures.1 c.before.if1.false).1
 
-run-text-requires : tie.Need-run-text-requires
-run-text-requires c κs = rw (le-leb _ _ c.before.before.if1.true) (omega arith)
+slice-aggregate-read : tie.Need-slice-aggregate-read
+slice-aggregate-read c = search rules
+
+read-requires : tie.Need-read-requires
+read-requires c κs = search rules
+
+refusal-at-requires : tie.Need-refusal-at-requires
+refusal-at-requires c κs = search rules
+
+returns : tie.Need-returns
+returns c =
+    let a = c.before.before.before.before.before.before.before.before.before.args in
+    let g = c.before.before.before.before.read in
+    with_text_promise a.frame.now a.words.now _ _ a.text.now (rw (text_refused a.text.now a.frame.now (length a.words.now) g.result g.new.1.0 g.ensures.1 c.before.if1.true) (c.refusal_at.ensures, refl))
+
+mul-size : tie.Need-overflow-mul-size
+mul-size c = omega (arith, fits c)
+
+array-share-prefix-steps : tie.Need-array-share-prefix-steps
+array-share-prefix-steps c = omega (arith, fits c, c.before.before.before.before.read.ensures.0)
+
+slice-aggregate-run-recipe : tie.Need-slice-aggregate-run-recipe
+slice-aggregate-run-recipe c = let g = c.before.before.before.before.before.read in sym (length-take-le (3 * g.result.count) g.new.1.0 (omega (arith, fits c.before, g.ensures.0)))
+
+run-recipe-requires : tie.Need-run-recipe-requires
+run-recipe-requires c κs = search rules
 
 same_length : tie.Need-same-length
 same_length c = search rules
 
-returns : tie.Need-returns
-returns c = let a = c.before.before.before.before.before.before.before.before.before.before.args in with_text_promise a.frame.now a.words.now _ _ a.text.now c.before.before.before.run-text.ensures
-
-slice-aggregate-run-text-2 : tie.Need-slice-aggregate-run-text-2
-slice-aggregate-run-text-2 c = search rules
-
-run-text-requires-2 : tie.Need-run-text-requires-2
-run-text-requires-2 c κs = rw (lt-leb _ _ c.before.before.if1.false) (omega arith)
-
-same-length-2 : tie.Need-same-length-2
-same-length-2 c = search rules
-
 returns-2 : tie.Need-returns-2
-returns-2 c = let a = c.before.before.before.before.before.before.before.before.before.before.args in with_text_promise a.frame.now a.words.now _ _ a.text.now c.before.before.before.run-text2.ensures
+returns-2 c =
+    let a = c.before.before.before.before.before.before.before.before.before.before.before.before.before.before.args in
+    let g = c.before.before.before.before.before.before.before.before.before.read in
+    with_text_promise a.frame.now a.words.now _ _ a.text.now (rw (sym (text_run a.text.now a.frame.now (length a.words.now) g.result g.new.1.0 g.ensures.1 c.before.before.before.before.before.before.if1.false g.ensures.0)) c.before.before.run-recipe.ensures.0)
 
 pub run_spec : {M : Type 1} → statement M
 run_spec =
     tie.close
     (tie.spec
-    slice-aggregate-run-text
-    run-text-requires
-    same_length
+    slice-aggregate-read
+    read-requires
+    refusal-at-requires
     returns
-    slice-aggregate-run-text-2
-    run-text-requires-2
-    same-length-2
+    mul-size
+    array-share-prefix-steps
+    slice-aggregate-run-recipe
+    run-recipe-requires
+    same_length
     returns-2)

@@ -13,10 +13,10 @@ use Rattle.float_format.proofs.Units.{three_way}
 use Rattle.recipe.specs.declared.Kind.{Kind}
 use Rattle.recipe.specs.declared.Step.{Step}
 use Rattle.recipe.specs.Table.{row_of, is_input}
-use Rattle.recipe.specs.Text.{most_steps, first, second, no_step, is_unknown, bad_range, inputs_in}
+use Rattle.recipe.specs.Text.{steps, short, most_steps, first, second, no_step, is_unknown, bad_range, inputs_in}
 use Rattle.recipe.specs.Text as text
 use Rattle.recipe.specs.Answer.{Formed}
-use Rattle.recipe.proofs.Laws.{step_checked, any_formed}
+use Rattle.recipe.proofs.Laws.{step_checked, read_formed}
 use Rattle.semantics.specs.Value.{Datum, word_of, Outcome, step_value}
 use Rattle.semantics.specs.Range.{Range, Ranged, ranged, step_range}
 use Rattle.semantics.specs.Range as range
@@ -227,4 +227,4 @@ sheet_sound l f s lent rs ws g =
 
 -- a text adds the reading
 pub text_sound : TextPromise
-text_sound t l e s lent rs ws g = rw (run_read t s (length lent) l e) (sheet_sound l (any_formed t l e) s lent rs ws g)
+text_sound t l e s lent rs ws g = rw (run_read t s (length lent) l e) (sheet_sound l (read_formed short t l e) s lent rs ws g)

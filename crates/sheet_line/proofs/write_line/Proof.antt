@@ -1,24 +1,15 @@
--- `write_line` meets its contract: each part written keeps the length, and `places_written` says what they make. Assumes nothing.
-use mathlib.Core.Path.{◌≡◌, ◌∙◌, sym, ap}
-use Prim.Native.Nat.{ℕ, ◌+◌, ◌-◌}
+-- `write_line` meets its contract: each part written keeps the length, and `line_written` says what they make. Assumes nothing.
+use mathlib.Core.Path.{◌∙◌, sym, ap}
+use Prim.Native.Nat.{ℕ}
 use native.Mathlib.Omega.{arith}
-use lib.ListN.{length, length-set, take}
+use lib.ListN.{length-set}
 use lib.Seq.{length-take-le}
 use Rattle.hexadecimal.specs.Hex.{digits}
 use Rattle.ranges.specs.Seen.{seen_range}
-use Rattle.sheet_line.proofs.Line.{places_written}
+use Rattle.sheet_line.proofs.Line.{line_written}
 use borrow.Author.Rules.{rules}
 use Rattle.sheet_line.proofs.write_line.Statement.{statement}
 use Rattle.sheet_line.proofs.write_line.Tie as tie
-
-add_low : tie.Need-add-low
-add_low c = search rules
-
-add-high : tie.Need-add-high
-add-high c = search rules
-
-add-end : tie.Need-add-end
-add-end c = search rules
 
 line-head-requires : tie.Need-line-head-requires
 line-head-requires c κs = search rules
@@ -27,7 +18,7 @@ slice-relend-prefix-write : tie.Need-slice-relend-prefix-write
 slice-relend-prefix-write c = search rules
 
 slice-aggregate-write : tie.Need-slice-aggregate-write
-slice-aggregate-write c = let s = c.before.before.before in sym (length-take-le (s.args.digits + 4) s.args.line.now (omega (arith, s.pre.1)))
+slice-aggregate-write c = let s = c.before.before.before in sym (length-take-le 6 s.args.line.now (omega (arith, s.pre.0)))
 
 write-requires : tie.Need-write-requires
 write-requires c κs = search rules
@@ -72,7 +63,7 @@ same_length c =
     let second = c.before.before.before.before.before.before in
     let first = c.before.before.before.before.before.before.before.before.before.before.before in
     let start = c.before.before.before.before.before.before.before.before.before.before.before.before.before.before.before.before in
-    simp length-set (omega (arith, third.line3.given.1, second.line2.given.1, first.line.given.1, start.pre.1))
+    simp length-set (omega (arith, third.line3.given.1, second.line2.given.1, first.line.given.1, start.pre.0))
 
 returns : tie.Need-returns
 returns c =
@@ -81,26 +72,18 @@ returns c =
     let first = c.before.before.before.before.before.before.before.before.before.before.before in
     let start = c.before.before.before.before.before.before.before.before.before.before.before.before.before.before.before.before in
     let line = start.args.line.now in
-    let w = start.args.digits in
     let high = third.before.before.before in
     let low = second.before.before.before in
     let head = first.before.before.before in
-    let fits : length (take (w + 4) line) ≡ w + 4 = length-take-le (w + 4) line (omega (arith, start.pre.1)) in
-    let sixteen : (n : ℕ) → n + 16 - n ≡ 16 = λ n. omega arith in
-    places_written w start.args.step start.args.mark (seen_range start.args.r) (w + 4) (w + 4 + 16) (w + 4 + 16 + 16) _ _
-    (omega arith) (omega arith) (omega arith) (sixteen (w + 4)) (sixteen (w + 4 + 16))
-    line first.before.write.last.1.0 second.before.write2.last.1.0 third.before.write3.last.1.0 start.pre.1
-    (first.before.write.ensures ∙ ap (λ (k : ℕ). digits k head.line-head.result) fits ∙ ap (digits (w + 4)) head.line-head.ensures)
-    (second.before.write2.ensures ∙ ap (λ (k : ℕ). digits k low.low_word.result) (second.before.before.write-arg2.given.2 ∙ sixteen (w + 4)) ∙ ap (digits 16) low.low_word.ensures)
-    (third.before.write3.ensures ∙ ap (λ (k : ℕ). digits k high.high_word_lem.result) (third.before.before.write-arg3.given.2 ∙ sixteen (w + 4 + 16)) ∙ ap (digits 16) high.high_word_lem.ensures)
+    line_written start.args.step start.args.mark (seen_range start.args.r) line first.before.write.last.1.0 second.before.write2.last.1.0 third.before.write3.last.1.0 start.pre.0
+    (first.before.write.ensures ∙ ap (λ (k : ℕ). digits k head.line-head.result) (length-take-le 6 line (omega (arith, start.pre.0))) ∙ ap (digits 6) head.line-head.ensures)
+    (second.before.write2.ensures ∙ ap (λ (k : ℕ). digits k low.low_word.result) second.before.before.write-arg2.given.2 ∙ ap (digits 16) low.low_word.ensures)
+    (third.before.write3.ensures ∙ ap (λ (k : ℕ). digits k high.high_word_lem.result) third.before.before.write-arg3.given.2 ∙ ap (digits 16) high.high_word_lem.ensures)
 
 pub write-line-spec : {M : Type 1} → statement M
 write-line-spec =
     tie.close
     (tie.spec
-    add_low
-    add-high
-    add-end
     line-head-requires
     slice-relend-prefix-write
     slice-aggregate-write

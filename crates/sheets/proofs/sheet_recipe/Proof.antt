@@ -2,9 +2,7 @@
 -- the rest. Assumes nothing.
 use mathlib.Core.Path.{◌≡◌, refl, sym, ◌∙◌}
 use mathlib.Core.Bool.{false}
-use Prim.Native.Nat.{◌+◌, ◌≤◌}
 use native.Mathlib.Omega.{arith}
-use native.Mathlib.Nat.{mul-le-mul}
 use lib.ListN.{length}
 use Rattle.recipe.specs.Packed.{bad_words}
 use Rattle.recipe.proofs.Packed.{words_count}
@@ -26,40 +24,29 @@ refusal-requires c κs = search rules
 returns : tie.Need-returns
 returns c =
     let a = c.before.before.before.before.before.args in
-    with_steps _ a.bytes.now _ _ a.steps.now (rw (sheet_bad _ a.steps.now (length a.bytes.now) (sym c.before.before.bad-words.ensures ∙ c.before.if1.true)) (c.refusal.ensures, refl))
-
-number-digits-requires : tie.Need-number-digits-requires
-number-digits-requires c κs = search rules
-
-add-if2 : tie.Need-overflow-add-if2
-add-if2 c = search rules
+    with_steps a.bytes.now _ _ a.steps.now (rw (sheet_bad a.steps.now (length a.bytes.now) (sym c.before.before.bad-words.ensures ∙ c.before.if1.true)) (c.refusal.ensures, refl))
 
 mul-if2 : tie.Need-overflow-mul-if2
-mul-if2 c =
-    let w = words_count (length c.before.before.before.before.before.args.steps.now) (good c.before) in
-    let d : 37 + c.number_digits.result ≤ 41 = omega (arith, c.number_digits.ensures.1) in
-    omega (arith, mul-le-mul w.1 d)
+mul-if2 c = search rules
 
 refusal-requires-2 : tie.Need-refusal-requires-2
 refusal-requires-2 c κs = search rules
 
 returns-2 : tie.Need-returns-2
 returns-2 c =
-    let a = c.before.before.before.before.before.before.before.args in
-    let e = c.before.before.number_digits.ensures.0 in
-    with_steps _ a.bytes.now _ _ a.steps.now (rw (← e, sheet_short _ a.steps.now (length a.bytes.now) (good c.before.before.before) _ refl c.before.if2.true) (c.refusal2.ensures, refl))
+    let a = c.before.before.before.before.before.before.args in
+    with_steps a.bytes.now _ _ a.steps.now (rw (sheet_short a.steps.now (length a.bytes.now) (good c.before.before) _ refl c.before.if2.true) (c.refusal2.ensures, refl))
 
 write-sheet-requires : tie.Need-write-sheet-requires
-write-sheet-requires c κs = let w = words_count _ (good c.before.before.before) in (w.1, c.before.before.number_digits.ensures.1, omega (arith, w.2), c.before.if2.false)
+write-sheet-requires c κs = let w = words_count _ (good c.before.before) in (w.1, omega (arith, w.2), c.before.if2.false)
 
 same_length : tie.Need-same-length
 same_length c = search rules
 
 returns-3 : tie.Need-returns-3
 returns-3 c =
-    let a = c.before.before.before.before.before.before.before.before.before.before.args in
-    let e = c.before.before.before.before.before.number_digits.ensures.0 in
-    with_steps _ a.bytes.now _ _ a.steps.now (rw (← e, sheet_reached _ a.steps.now (length a.bytes.now) (good c.before.before.before.before.before.before) _ refl c.before.before.before.before.if2.false) c.before.before.write-sheet.ensures)
+    let a = c.before.before.before.before.before.before.before.before.before.args in
+    with_steps a.bytes.now _ _ a.steps.now (rw (sheet_reached a.steps.now (length a.bytes.now) (good c.before.before.before.before.before) _ refl c.before.before.before.before.if2.false) c.before.before.write-sheet.ensures)
 
 pub sheet-recipe-spec : {M : Type 1} → statement M
 sheet-recipe-spec =
@@ -68,8 +55,6 @@ sheet-recipe-spec =
     bad-words-requires
     refusal-requires
     returns
-    number-digits-requires
-    add-if2
     mul-if2
     refusal-requires-2
     returns-2

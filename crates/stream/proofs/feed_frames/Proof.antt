@@ -12,14 +12,11 @@ mul-end c = search rules
 
 slice-aggregate-take-lines : tie.Need-slice-aggregate-take-lines
 slice-aggregate-take-lines c =
-    let s = c.before.before.before.before.before.before.before in
-    sym (length-take-le (3 * s.args.state.steps) s.args.steps.now s.requires.1)
-
-number-digits-requires : tie.Need-number-digits-requires
-number-digits-requires c κs = tt
+    let a = c.before.before.before.before.before.before.args in
+    sym (length-take-le (3 * a.state.steps) a.steps.now c.before.before.before.before.before.before.requires.1)
 
 take-lines-requires : tie.Need-take-lines-requires
-take-lines-requires c κs = let s = c.before.before.before.before.before.before.before.before.before in (c.before.before.before.number_digits.ensures.1, s.requires.0, s.requires.2, s.requires.3)
+take-lines-requires c κs = search rules
 
 same_length : tie.Need-same-length
 same_length c = search rules
@@ -29,15 +26,12 @@ same-length-2 c = search rules
 
 returns : tie.Need-returns
 returns c =
-    let s = c.before.before.before.before.before.before.before.before.before.before.before.before.before.before in
-    let a = s.args in
-    let g = c.before.before.before.before.take-lines in
-    let r = g.ensures in
-    let e = c.before.before.before.before.before.before.before.before.number_digits.ensures.0 in (
+    let a = c.before.before.before.before.before.before.before.before.before.before.before.before.before.args in
+    let r = c.before.before.before.before.take-lines.ensures in (
       r.0,
       r.1,
       r.2,
-      λ l line h k f. fed_frames a.state.long l line _ _ a.state.steps g.result.count _ a.steps.now s.requires.1 h (rw e at (r.3 l line h k f)),
+      λ l line g k f. fed_frames l line _ _ a.state.steps c.before.before.before.before.take-lines.result.count c.before.before.before.before.take-lines.new.1.0 a.steps.now c.before.before.before.before.before.before.before.before.before.before.before.before.before.requires.1 g (r.3 l line g k f),
       r.4,
       r.5,
     )
@@ -47,7 +41,6 @@ feed-frames-spec =
     tie.close
     (tie.spec
     mul-end
-    number-digits-requires
     slice-aggregate-take-lines
     take-lines-requires
     same_length

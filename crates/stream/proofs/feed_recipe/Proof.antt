@@ -1,13 +1,9 @@
 -- `feed_recipe` meets its contract, by what `take_recipe` found and by the recipe's refusal. Assumes nothing.
-use mathlib.Core.Path.{refl, sym, ap, ◌∙◌}
-use mathlib.Core.Bool.{Bool}
-use Prim.Native.Nat.{ℕ, ◌≤◌}
+use mathlib.Core.Path.{refl}
 use native.Mathlib.Omega.{arith}
-use lib.ListN.{length, take}
-use lib.Seq.{length-take-le}
+use lib.ListN.{take}
 use borrow.Author.Rules.{rules}
-use Rattle.recipe.specs.Text.{digits_by}
-use Rattle.programs.specs.Output.{refusal_line, looked_at}
+use Rattle.programs.specs.Output.{looked_at}
 use Rattle.programs.proofs.Untouched.{untouched_later}
 use Rattle.programs.proofs.Stages.{fed_missing, fed_endless, fed_refused, fed_opened}
 use Rattle.stream.proofs.feed_recipe.Statement.{statement}
@@ -36,43 +32,24 @@ same-length-3 c = search rules
 
 returns : tie.Need-returns
 returns c =
-    let s = c.before.before.before.before.before.before.before.before.before.before.before.before.before.before.before.before.before.before.before.before.before in
-    let a = s.args in
-    let x = c.before.before.before.before.before.before.before.before.before.before.before.before.before.before.before.take-recipe in
-    let h = x.result in
-    let e = x.ensures in
-    let g = c.before.before.before.before.before.before.before.read-recipe in
-    let r = g.ensures in (
+    let a = c.before.before.before.before.before.before.before.before.before.before.before.before.before.before.before.before.before.before.before.before.before.args in
+    let h = c.before.before.before.before.before.before.before.before.before.before.before.before.before.before.before.take-recipe.result in
+    let e = c.before.before.before.before.before.before.before.before.before.before.before.before.before.before.before.take-recipe.ensures in
+    let r = c.before.before.before.before.before.before.before.read-recipe.ensures in (
       e.0,
       e.1,
       r.0,
-      fed_refused (take a.count a.buffer.now) _ h.count x.new.0 g.new.1.1.0 h.end e.2 e.3 g.result.reading _ c.before.before.before.before.before.before.before.before.before.before.before.enum-told2.given.1 r.2 r.3 c.if1.true,
-      r.4,
+      fed_refused (take a.count a.buffer.now) _ h.count c.before.before.before.before.before.before.before.before.before.before.before.before.before.before.before.take-recipe.new.0 c.before.before.before.before.before.before.before.read-recipe.new.1.1.0 h.end e.2 e.3 c.before.before.before.before.before.before.before.read-recipe.result.reading _ c.before.before.before.before.before.before.before.before.before.before.before.enum-told2.given.1 r.1 r.2 c.if1.true,
+      r.3,
       untouched_later a.buffer.now _ h.count looked_at e.2 e.4,
-      r.5,
+      r.4,
     )
-
--- what was taken of the recipe lies in the buffer
-head-fits : (c : tie.At-match-keys3) → c.before.before.before.take-recipe.result.count ≤ length c.before.before.before.take-recipe.new.0
-head-fits c = omega (arith, c.before.before.before.take-recipe.ensures.2, c.before.before.before.take-recipe.auto.0, c.before.before.before.before.before.before.before.before.before.requires.0)
 
 enum-told-3 : tie.Need-enum-told-3
 enum-told-3 c = search rules
 
-slice-reshare-prefix-is-long : tie.Need-slice-reshare-prefix-is-long
-slice-reshare-prefix-is-long c = head-fits c.before
-
-slice-aggregate-is-long : tie.Need-slice-aggregate-is-long
-slice-aggregate-is-long c = sym (length-take-le c.before.before.before.before.before.take-recipe.result.count c.before.before.before.before.before.take-recipe.new.0 (head-fits c.before.before))
-
-is-long-requires : tie.Need-is-long-requires
-is-long-requires c κs = tt
-
-number-digits-requires : tie.Need-number-digits-requires
-number-digits-requires c κs = tt
-
 refusal-line-requires : tie.Need-refusal-line-requires
-refusal-line-requires c κs = (c.before.number_digits.ensures.1, c.before.before.before.before.before.before.before.before.before.before.before.before.before.before.requires.4)
+refusal-line-requires c κs = search rules
 
 same-length-4 : tie.Need-same-length-4
 same-length-4 c = search rules
@@ -102,20 +79,17 @@ same-length-7 c = search rules
 
 returns-3 : tie.Need-returns-3
 returns-3 c =
-    let s = c.before.before.before.before.before.before.before.before.before.before.before.before.before.before.before.before.before.before.before.before.before in
-    let a = s.args in
-    let x = c.before.before.before.before.before.before.before.before.before.before.before.before.before.before.before.take-recipe in
-    let h = x.result in
-    let e = x.ensures in
-    let g = c.before.before.before.before.before.before.before.read-recipe in
-    let r = g.ensures in (
+    let a = c.before.before.before.before.before.before.before.before.before.before.before.before.before.before.before.before.before.before.before.before.before.args in
+    let h = c.before.before.before.before.before.before.before.before.before.before.before.before.before.before.before.take-recipe.result in
+    let e = c.before.before.before.before.before.before.before.before.before.before.before.before.before.before.before.take-recipe.ensures in
+    let r = c.before.before.before.before.before.before.before.read-recipe.ensures in (
       e.0,
       e.1,
       r.0,
-      rw r.1 (fed_opened (take a.count a.buffer.now) _ h.count x.new.0 g.new.1.1.0 h.end e.2 e.3 g.result.reading _ c.before.before.before.before.before.before.before.before.before.before.before.enum-told2.given.1 r.2 r.3 (omega (arith, g.auto.1.1.0, s.requires.2)) c.if1.false),
-      r.4,
+      fed_opened (take a.count a.buffer.now) _ h.count c.before.before.before.before.before.before.before.before.before.before.before.before.before.before.before.take-recipe.new.0 c.before.before.before.before.before.before.before.read-recipe.new.1.1.0 h.end e.2 e.3 c.before.before.before.before.before.before.before.read-recipe.result.reading _ c.before.before.before.before.before.before.before.before.before.before.before.enum-told2.given.1 r.1 r.2 (omega (arith, c.before.before.before.before.before.before.before.read-recipe.auto.1.1.0, c.before.before.before.before.before.before.before.before.before.before.before.before.before.before.before.before.before.before.before.before.before.requires.2)) c.if1.false,
+      r.3,
       untouched_later a.buffer.now _ h.count looked_at e.2 e.4,
-      r.5,
+      r.4,
     )
 
 same-length-8 : tie.Need-same-length-8
@@ -126,17 +100,14 @@ same-length-9 c = search rules
 
 returns-4 : tie.Need-returns-4
 returns-4 c =
-    let a = c.before.before.before.before.before.before.before.before.before.before.before.before.before.before.before.before.before.args in
-    let x = c.before.before.before.before.before.before.before.before.before.before.before.take-recipe in
-    let h = x.result in
-    let e = x.ensures in
-    let o = c.before.before.refusal-line.ensures in
-    let d = c.before.before.before.before.number_digits.ensures.0 ∙ ap (λ (y : Bool). digits_by y) c.before.before.before.before.before.is-long.ensures in (
+    let a = c.before.before.before.before.before.before.before.before.before.before.before.before.before.before.args in
+    let h = c.before.before.before.before.before.before.before.before.take-recipe.result in
+    let e = c.before.before.before.before.before.before.before.before.take-recipe.ensures in (
       e.0,
       e.1,
-      o.0,
-      fed_endless (take a.count a.buffer.now) _ h.count x.new.0 a.steps.now h.end e.2 e.3 _ c.before.before.before.before.before.before.before.enum-told3.given.1 (o.1 ∙ ap (λ (w : ℕ). refusal_line w 10 0) d),
-      o.2,
+      c.before.before.refusal-line.ensures.0,
+      fed_endless (take a.count a.buffer.now) _ h.count c.before.before.before.before.before.before.before.before.take-recipe.new.0 a.steps.now h.end e.2 e.3 _ c.before.before.before.before.enum-told3.given.1 c.before.before.refusal-line.ensures.1,
+      c.before.before.refusal-line.ensures.2,
       untouched_later a.buffer.now _ h.count looked_at e.2 e.4,
       refl,
     )
@@ -154,10 +125,6 @@ feed-recipe-spec =
     same-length-3
     returns
     enum-told-3
-    slice-reshare-prefix-is-long
-    slice-aggregate-is-long
-    is-long-requires
-    number-digits-requires
     refusal-line-requires
     same-length-4
     returns-2

@@ -1,37 +1,26 @@
 -- `read_recipe` meets its contract, by the recipe's refusal. Assumes nothing.
-use mathlib.Core.Path.{◌≡◌, refl, sym, ap, ◌∙◌}
-use mathlib.Core.Bool.{Bool}
+use mathlib.Core.Path.{refl, sym, ◌∙◌}
 use mathlib.Core.List.{[]}
 use native.Mathlib.Omega.{arith}
-use lib.ListN.{length, take}
+use lib.ListN.{take}
 use lib.Seq.{length-take-le}
 use borrow.Author.Rules.{rules}
-use Rattle.recipe.specs.Text.{digits_by, number_digits}
 use Rattle.programs.proofs.Stages.{read_refused, read_passed}
-use Rattle.programs.proofs.Words.{words_untouched, steps_at_most}
+use Rattle.programs.proofs.Words.{words_untouched}
 use Rattle.stream.proofs.read_recipe.Statement.{statement}
 use Rattle.stream.proofs.read_recipe.Tie as tie
 
 slice-aggregate-read : tie.Need-slice-aggregate-read
-slice-aggregate-read c = let s = c.before.before.before.before in sym (length-take-le s.args.n s.args.buffer.now s.requires.0)
+slice-aggregate-read c = sym (length-take-le c.before.before.before.before.args.n c.before.before.before.before.args.buffer.now (omega arith))
 
 read-requires : tie.Need-read-requires
-read-requires c κs = let s = c.before.before.before.before.before in omega (arith, s.requires.1, steps_at_most (length (take s.args.n s.args.buffer.now)))
-
-slice-aggregate-is-long : tie.Need-slice-aggregate-is-long
-slice-aggregate-is-long c = let s = c.before.before.before.before.before.before.before.before.before in sym (length-take-le s.args.n s.args.buffer.now s.requires.0)
-
-is-long-requires : tie.Need-is-long-requires
-is-long-requires c κs = tt
-
-number-digits-requires : tie.Need-number-digits-requires
-number-digits-requires c κs = tt
+read-requires c κs = search rules
 
 cast-refusal-line : tie.Need-overflow-cast-refusal-line
 cast-refusal-line c = search rules
 
 refusal-line-requires : tie.Need-refusal-line-requires
-refusal-line-requires c κs = (c.before.before.number_digits.ensures.1, c.before.before.before.before.before.before.before.before.before.before.before.before.before.before.before.requires.2)
+refusal-line-requires c κs = search rules
 
 same_length : tie.Need-same-length
 same_length c = search rules
@@ -41,18 +30,13 @@ same-length-2 c = search rules
 
 returns : tie.Need-returns
 returns c =
-    let a = c.before.before.before.before.before.before.before.before.before.before.before.before.before.before.before.before.before.before.args in
-    let t = take a.n a.buffer.now in
-    let g = c.before.before.before.before.before.before.before.before.before.before.before.before.read in
-    let o = c.before.before.refusal-line.ensures in
-    let l = c.before.before.before.before.before.before.before.before.is-long.ensures in
-    let d : c.before.before.before.before.before.number_digits.result ≡ number_digits t = c.before.before.before.before.before.number_digits.ensures.0 ∙ ap (λ (x : Bool). digits_by x) l in (
-      o.0,
-      l,
-      g.ensures.1,
-      o.1 ∙ rw d (sym (read_refused t g.result g.new.1.0 g.ensures.1 (λ l. []) c.before.before.before.before.before.before.if1.true)),
-      o.2,
-      words_untouched t a.steps.now g.new.1.0 g.ensures.2,
+    let a = c.before.before.before.before.before.before.before.before.before.before.before.before.before.before.before.args in
+    let e = c.before.before.before.before.before.before.before.before.before.read.ensures.1 in (
+      c.before.before.refusal-line.ensures.0,
+      e,
+      c.before.before.refusal-line.ensures.1 ∙ sym (read_refused (take a.n a.buffer.now) c.before.before.before.before.before.before.before.before.before.read.result c.before.before.before.before.before.before.before.before.before.read.new.1.0 e (λ l. []) c.before.before.before.before.before.if1.true),
+      c.before.before.refusal-line.ensures.2,
+      words_untouched (take a.n a.buffer.now) a.steps.now c.before.before.before.before.before.before.before.before.before.read.new.1.0 c.before.before.before.before.before.before.before.before.before.read.ensures.2,
     )
 
 same-length-3 : tie.Need-same-length-3
@@ -60,10 +44,9 @@ same-length-3 c = search rules
 
 returns-2 : tie.Need-returns-2
 returns-2 c =
-    let a = c.before.before.before.before.before.before.before.before.before.before.before.before.args in
-    let t = take a.n a.buffer.now in
-    let g = c.before.before.before.before.before.before.read in
-    (omega arith, c.before.before.is-long.ensures, g.ensures.1, sym (read_passed t g.result g.new.1.0 g.ensures.1 (λ l. []) c.if1.false), refl, words_untouched t a.steps.now g.new.1.0 g.ensures.2)
+    let a = c.before.before.before.before.before.before.before.before.before.before.args in
+    let e = c.before.before.before.before.read.ensures.1 in
+    (omega arith, e, sym (read_passed (take a.n a.buffer.now) c.before.before.before.before.read.result c.before.before.before.before.read.new.1.0 e (λ l. []) c.if1.false), refl, words_untouched (take a.n a.buffer.now) a.steps.now c.before.before.before.before.read.new.1.0 c.before.before.before.before.read.ensures.2)
 
 pub read-recipe-spec : {M : Type 1} → statement M
 read-recipe-spec =
@@ -71,9 +54,6 @@ read-recipe-spec =
     (tie.spec
     slice-aggregate-read
     read-requires
-    slice-aggregate-is-long
-    is-long-requires
-    number-digits-requires
     cast-refusal-line
     refusal-line-requires
     same_length

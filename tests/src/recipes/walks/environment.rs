@@ -6,7 +6,8 @@ use crate::recipes::comparison::Outcome;
 use crate::recipes::faults::damaged;
 use crate::recipes::growing::grow_marked;
 use crate::recipes::Call;
-use crate::reference::recipe::{Form, Way, OPERATIONS};
+use crate::reference::recipe::text::LINE;
+use crate::reference::recipe::{Way, OPERATIONS};
 
 /// Calls that are answered, calls with a fault, recipes whose sheets have many marks, and recipes in
 /// which zeros of both signs meet, by turns.
@@ -26,20 +27,15 @@ fn calls<C: Call>(seed: u64, rounds: usize) -> Vec<C> {
     calls
 }
 
-/// Stops where a step of some opcode is in none of these texts, of either form.
+/// Stops where a step of some opcode is in none of these texts.
 fn expect_every_opcode<C: Call>(calls: &[C]) {
-    for form in Form::BOTH {
-        let of_form: Vec<&C> = (calls.iter())
-            .filter(|call| Form::told(call.text()) == Some(form))
-            .collect();
-        for operation in &OPERATIONS {
-            let digits = format!("{:02x}", operation.opcode);
-            let is_met = |call: &&C| {
-                let mut lines = call.text().chunks(form.line());
-                lines.any(|line| line.starts_with(digits.as_bytes()))
-            };
-            assert!(of_form.iter().any(is_met), "no step {digits}, {form:?}");
-        }
+    for operation in &OPERATIONS {
+        let digits = format!("{:02x}", operation.opcode);
+        let is_met = |call: &C| {
+            let mut lines = call.text().chunks(LINE);
+            lines.any(|line| line.starts_with(digits.as_bytes()))
+        };
+        assert!(calls.iter().any(is_met), "no step {digits}");
     }
 }
 

@@ -3,8 +3,8 @@
 use super::difference::{Fate, Part, Shown};
 use super::table::name;
 use crate::recipes::{Draft, Line};
-use crate::reference::recipe::text;
-use crate::reference::recipe::{frame, Form, Kind, Source, Way};
+use crate::reference::recipe::text::{self, LINE};
+use crate::reference::recipe::{frame, Kind, Source, Way};
 use std::fmt;
 
 /// A recipe up to the step at which the rules differ.
@@ -18,9 +18,8 @@ pub struct Example {
 
 impl Example {
     pub fn up_to(shown: &Shown, text: &[u8], frame: &[u8]) -> Example {
-        let form = Form::told(text).expect("it was worked");
         Example {
-            text: text[..form.line() * (shown.step + 1)].to_vec(),
+            text: text[..LINE * (shown.step + 1)].to_vec(),
             frame: frame.to_vec(),
             shown: *shown,
         }
@@ -32,8 +31,7 @@ impl Example {
 
     /// What the step stands on, and the step itself last, as a recipe of its own: it shows the same.
     fn recipe(&self) -> Draft {
-        let recipe = text::read(Way::Short, &self.text).expect("it was worked");
-        let (form, steps) = (recipe.form, recipe.steps);
+        let steps = text::steps(Way::Short, &self.text).expect("it was worked");
         let mut is_under = vec![false; steps.len()];
         is_under[self.step()] = true;
         for place in (0..steps.len()).rev() {
@@ -47,10 +45,7 @@ impl Example {
         }
         let mut digits = self.frame.chunks(frame::DIGITS);
         let mut places = vec![0; steps.len()];
-        let mut draft = Draft {
-            form,
-            ..Draft::default()
-        };
+        let mut draft = Draft::default();
         for (place, step) in steps.iter().enumerate() {
             let word = step.operation.is_input().then(|| digits.next()).flatten();
             if !is_under[place] {
@@ -86,9 +81,8 @@ impl fmt::Display for Example {
         let (name, step) = (name(self.shown.opcode), draft.lines.len() - 1);
         writeln!(f, "{part} of {name} at step {step:02x}, {fate}")?;
         let text = draft.run_call().text;
-        let lines = text.split(|&byte| byte == b'\n');
-        for (digits, line) in lines.zip(&draft.lines) {
-            writeln!(f, "  {}  {}", digits.escape_ascii(), told(line))?;
+        for (digits, line) in text.chunks(LINE).zip(&draft.lines) {
+            writeln!(f, "  {}  {}", digits[..LINE - 1].escape_ascii(), told(line))?;
         }
         for (place, &word) in draft.inputs().into_iter().zip(&draft.words) {
             let kind = draft.lines[place].kind().expect("an opcode");

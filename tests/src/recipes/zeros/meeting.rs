@@ -41,7 +41,7 @@ impl Random {
         inputs.map(word).collect()
     }
 
-    /// A recipe of either form on ranges at zero, with a frame. Half of its steps are fmin or fmax, the others any;
+    /// A recipe on ranges at zero, with a frame. Half of its steps are fmin or fmax, the others any;
     /// few of them refuse.
     pub fn meeting(&mut self) -> Draft {
         let mut lines = vec![
@@ -56,8 +56,7 @@ impl Random {
             let step = self.step_on(&lines);
             lines.push(step);
         }
-        let form = self.form();
-        Draft { form, lines, words }
+        Draft { lines, words }
     }
 
     /// A step on these, fmin or fmax in half of the cases, a sum, difference or product in an eighth.

@@ -164,13 +164,9 @@ pub fn reasons(
 /// Why the sheet is refused with 20, 21 or 22; nothing where it is passed. "A recipe refused
 /// earlier gives that refusal."
 pub fn explain(way: Way, text: &[u8]) -> Result<Option<Explanation>, Refusal> {
-    Ok(of_steps(way, &text::steps(way, text)?))
-}
-
-/// The same of a recipe that is read.
-pub fn of_steps(way: Way, steps: &[Step]) -> Option<Explanation> {
-    let refused = sheet::ranges(way, steps).err();
-    refused.map(|refusal| first_reason(way, &steps[..=refusal.place as usize]))
+    let steps = text::steps(way, text)?;
+    let refused = sheet::ranges(way, &steps).err();
+    Ok(refused.map(|refusal| first_reason(way, &steps[..=refusal.place as usize])))
 }
 
 /// "The fact named by the code is true of the ranges of earlier steps, and no code before it for

@@ -5,11 +5,10 @@
 //! hold the two together.
 
 use super::operations::Way;
-use super::text::{self, Recipe};
+use super::text::{self, Step};
 use super::{run, Refusal};
 
-/// Bytes of the longest answer: kind 2 digits, word 16, and a line feed. A refusal's are fewer in both
-/// forms.
+/// Bytes of the longest answer: kind 2 digits, word 16, and a line feed.
 pub const LONGEST_ANSWER: usize = 19;
 
 /// Bytes of the longest frame, the line feed after it not counted.
@@ -25,7 +24,7 @@ pub struct Answers {
 /// The answers to those of the lines that have their line feed, as long as the longest answer still
 /// fits into the `lent` bytes of memory; or the refusal of the call.
 pub fn run_lines(way: Way, text: &[u8], lines: &[u8], lent: usize) -> Result<Answers, Refusal> {
-    let recipe = text::read(way, text)?;
+    let steps = text::steps(way, text)?;
     if lent < LONGEST_ANSWER {
         return Err(Refusal::whole_call(40));
     }
@@ -37,29 +36,25 @@ pub fn run_lines(way: Way, text: &[u8], lines: &[u8], lent: usize) -> Result<Ans
         if lent - answers.bytes.len() < LONGEST_ANSWER {
             break;
         }
-        answers.bytes.extend(answer(way, &recipe, frame).as_bytes());
+        answers.bytes.extend(answer(way, &steps, frame).as_bytes());
         answers.read += line.len();
     }
     Ok(answers)
 }
 
-/// The last step's kind and word, or a refusal's number and place, which has as many digits as the
-/// recipe's operands.
-fn answer(way: Way, recipe: &Recipe, frame: &[u8]) -> String {
+/// The last step's kind and word, or a refusal's number and place.
+fn answer(way: Way, steps: &[Step], frame: &[u8]) -> String {
     let values = if frame.len() > LONGEST_FRAME {
         Err(Refusal::whole_call(30))
     } else {
-        run::over(way, &recipe.steps, frame)
+        run::over(way, steps, frame)
     };
     match values {
         Ok(values) => {
             let last = values.last().expect("a recipe has a step");
             format!("{:02x}{:016x}\n", last.kind as u8, last.word)
         }
-        Err(Refusal { number, place }) => {
-            let digits = recipe.form.digits();
-            format!("ff{number:02x}{place:0digits$x}\n")
-        }
+        Err(Refusal { number, place }) => format!("ff{number:02x}{place:02x}\n"),
     }
 }
 
@@ -73,20 +68,9 @@ mod tests {
 18010000000000000000000000000000000000
 ";
 
-    /// The same steps in the long form.
-    const LONG_RECIPE: &[u8] = b"\
-0100000000c004000000000000401d000000000000
-100000000000000000000000000000000000000000
-180001000000000000000000000000000000000000
-";
-
     /// Read, and the answers.
     fn answered(lines: &str, lent: usize) -> Result<(usize, String), u64> {
-        answered_in(RECIPE, lines, lent)
-    }
-
-    fn answered_in(text: &[u8], lines: &str, lent: usize) -> Result<(usize, String), u64> {
-        let answers = run_lines(Way::Exact, text, lines.as_bytes(), lent);
+        let answers = run_lines(Way::Exact, RECIPE, lines.as_bytes(), lent);
         let told = |answers: Answers| (answers.read, String::from_utf8(answers.bytes).unwrap());
         answers.map(told).map_err(|refusal| refusal.number)
     }
@@ -110,26 +94,12 @@ mod tests {
         assert_eq!(answered(&lines, 26), Ok((34, both.into())));
     }
 
-    /// A place has 4 digits, and a line is answered where 19 bytes are left, as in the short form.
-    #[test]
-    fn the_example_in_the_long_form() {
-        let lines = "401e000000000000\nbfe0000000000000\n";
-        let answered = |lent| answered_in(LONG_RECIPE, lines, lent);
-        assert_eq!(answered(18), Err(40));
-        assert_eq!(answered(19), Ok((17, "ff200000\n".into())));
-        assert_eq!(answered(27), Ok((17, "ff200000\n".into())));
-        let both = "ff200000\n02ffffffffffffffff\n";
-        assert_eq!(answered(28), Ok((34, both.into())));
-    }
-
     #[test]
     fn a_line_of_over_256_bytes_is_no_frame() {
         for length in [255, 256, 257, 300, 10_000] {
             let line = format!("{}\n", "z".repeat(length));
             let answers = Ok((length + 1, "ff1e00\n".into()));
             assert_eq!(answered(&line, 19), answers, "{length}");
-            let answers = Ok((length + 1, "ff1e0000\n".into()));
-            assert_eq!(answered_in(LONG_RECIPE, &line, 19), answers, "{length}");
         }
     }
 }

@@ -1,14 +1,13 @@
 //! Recipes, their runs, their sheets, and why they are turned down: "Recipe text" and "Turning text
-//! down" of document 01 and requests W-203 to W-206 and W-208, rule by rule.
+//! down" of document 01 and requests W-203 to W-205 and W-208, rule by rule.
 //!
-//! `operations` is the table of steps, said once; `form` has the two forms of a text and what tells
-//! them apart, `text` turns a text of either into steps, `frame` reads the inputs, `run` works the steps, and `lines` does so for one frame line after the other.
+//! `operations` is the table of steps, said once; `text` turns recipe text into steps, `frame`
+//! reads the inputs, `run` works the steps, and `lines` does so for one frame line after the other.
 //! `ranges` has the range rules, `marks` the rule for the marks beside them, `sheet` works both step by
 //! step and writes them down, `explain` tells which fact about the ranges a refusal comes from. Doubles
 //! and whole numbers travel as words of 64 bits, and a step's kind tells which of the two its word is.
 
 pub mod explain;
-pub mod form;
 pub mod frame;
 pub mod lines;
 pub mod marks;
@@ -19,13 +18,12 @@ pub mod sheet;
 pub mod text;
 
 pub use explain::{explain, Explanation};
-pub use form::Form;
 pub use lines::{run_lines, Answers};
 pub use operations::{Kind, Operation, Source, Way, OPERATIONS};
 pub use ranges::Range;
 pub use run::{run, StepValue};
 pub use sheet::{sheet, StepRange};
-pub use text::{Recipe, Step};
+pub use text::Step;
 
 /// Document 01's number and place.
 #[derive(Clone, Copy, Debug, PartialEq, Eq)]

@@ -1,11 +1,13 @@
 //! The sheet of a recipe: refusals 10 to 17, 40, and 20 to 22 as stated for the sheet, in that
 //! order; and its bytes.
 
-use super::form::Form;
 use super::operations::{Kind, Source, Way};
 use super::ranges::Range;
 use super::text::Step;
 use super::{marks, text, Refusal};
+
+/// Step 2 digits, kind 2, mark 2, low 16, high 16, and a line feed.
+pub const LINE: usize = 39;
 
 /// The kind of a step's value, its mark, and the range that the range rules give.
 #[derive(Clone, Copy, Debug, PartialEq, Eq)]
@@ -17,11 +19,11 @@ pub struct StepRange {
 
 /// Every step's range and mark, `lent` being the bytes of memory that the caller lends; or the refusal.
 pub fn sheet(way: Way, text: &[u8], lent: usize) -> Result<Vec<StepRange>, Refusal> {
-    let recipe = text::read(way, text)?;
-    if lent < recipe.form.sheet_line() * recipe.steps.len() {
+    let steps = text::steps(way, text)?;
+    if lent < LINE * steps.len() {
         return Err(Refusal::whole_call(40));
     }
-    ranges(way, &recipe.steps)
+    ranges(way, &steps)
 }
 
 /// Every step's range and mark, steps in order.
@@ -49,13 +51,12 @@ pub fn ranges(way: Way, steps: &[Step]) -> Result<Vec<StepRange>, Refusal> {
     Ok(ranges)
 }
 
-/// The lines of the sheet of a text in this form: "long sheets .. write steps .. with 4 digits".
-pub fn bytes(form: Form, ranges: &[StepRange]) -> Vec<u8> {
-    let digits = form.digits();
+/// The sheet's lines.
+pub fn bytes(ranges: &[StepRange]) -> Vec<u8> {
     let line = |(step, shown): (usize, &StepRange)| {
         let (kind, mark) = (shown.kind as u8, shown.mark as u8);
         let Range { low, high } = shown.range;
-        format!("{step:0digits$x}{kind:02x}{mark:02x}{low:016x}{high:016x}\n")
+        format!("{step:02x}{kind:02x}{mark:02x}{low:016x}{high:016x}\n")
     };
     let lines: String = ranges.iter().enumerate().map(line).collect();
     lines.into_bytes()

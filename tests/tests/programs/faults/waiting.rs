@@ -3,7 +3,7 @@
 
 use super::{counted, shell};
 use crate::child::Child;
-use crate::long::longest;
+use crate::literal::longest;
 use crate::{Program, EXPLAIN, RUN, SHEET};
 use std::io::{self, Read};
 use std::os::unix::process::{CommandExt, ExitStatusExt};

@@ -189,7 +189,7 @@ fn compare(way: Way, seeds: Range<u64>) -> Counts {
             if difference.is_some() {
                 return difference;
             }
-            let shown = shown_lines(&call, &outcome);
+            let shown = shown_lines(&outcome);
             if let Some(step) = line_with_a_wrong_mark(&shown) {
                 return Some(format!("step {step} has a wrong mark\n{call}"));
             }
@@ -200,7 +200,7 @@ fn compare(way: Way, seeds: Range<u64>) -> Counts {
 }
 
 #[test]
-fn on_many_marks_by_the_short_way() {
+fn on_many_marks_by_the_short_form() {
     let counts = compare(Way::Short, 0..SEEDS);
     assert_eq!(counts.recipes, SEEDS * RECIPES);
     counts.expect(500);

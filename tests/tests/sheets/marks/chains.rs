@@ -1,12 +1,10 @@
-//! Chains of 128 and of 512 steps, each on the one before it.
+//! Chains of up to 128 steps, each on the one before it.
 
 use super::{marks, shown};
 use estrenwind_tests::recipes::limits::{INF, MAX};
 use estrenwind_tests::recipes::Line;
-use estrenwind_tests::reference::recipe::{Form, Kind};
-
-/// Steps of the longest recipe in each form.
-const MOST_STEPS: [usize; 2] = [Form::Short.most_steps(), Form::Long.most_steps()];
+use estrenwind_tests::reference::recipe::text::MOST_STEPS;
+use estrenwind_tests::reference::recipe::Kind;
 
 fn double(x: f64) -> Line {
     Line::constant(Kind::Double, x.to_bits())
@@ -26,10 +24,10 @@ fn keepers(last: usize) -> [Line; 8] {
     ]
 }
 
-/// Keepers by turns behind these steps, up to so many: each on the one before it.
-fn kept_on(start: &[Line], turn: usize, steps: usize) -> Vec<Line> {
+/// Keepers by turns behind these steps, up to the last of 128: each on the one before it.
+fn kept_on(start: &[Line], turn: usize) -> Vec<Line> {
     let mut lines = start.to_vec();
-    while lines.len() < steps {
+    while lines.len() < MOST_STEPS {
         let last = lines.len() - 1;
         let keepers = keepers(last);
         lines.push(keepers[(turn * lines.len()) % keepers.len()]);
@@ -71,33 +69,31 @@ fn keepers_keep_what_is_there() {
         (vec![double(0.5), far, Line::step(0x17, 0, 0)], false),
     ];
     for (start, mark) in starts {
-        for (turn, steps) in [(1, 128), (3, 128), (5, 512), (7, 512)] {
-            let marks = marks(&kept_on(&start, turn, steps));
-            assert_eq!(marks[2..], vec![mark; steps - 2], "{start:?} {turn}");
+        for turn in [1, 3, 5, 7] {
+            let marks = marks(&kept_on(&start, turn));
+            assert_eq!(marks[2..], vec![mark; MOST_STEPS - 2], "{start:?} {turn}");
         }
     }
 }
 
-/// One kind of step alone, 126 times or 510: fabs, negate, and fmin, fmax, fmod, remainder, a sum, a difference
+/// One kind of step alone, 127 times: fabs, negate, and fmin, fmax, fmod, remainder, a sum, a difference
 /// and a product with a number.
 #[test]
 fn one_keeper_again_and_again() {
     for (start, mark) in [(3.0, true), (-3.0, true), (2.5, false), (-2.5, false)] {
-        let opcodes = [0x16, 0x17, 0x20, 0x21, 0x22, 0x24, 0x40, 0x41, 0x42];
-        for (opcode, steps) in opcodes
-            .into_iter()
-            .flat_map(|opcode| MOST_STEPS.map(|steps| (opcode, steps)))
-        {
-            // A product grows with each step, and 5^510 is beyond the largest double.
-            let number = if opcode == 0x42 { 3.0 } else { 5.0 };
-            let mut lines = vec![double(start), double(number), Line::step(0x17, 0, 0)];
-            while lines.len() < steps {
+        for opcode in [0x16, 0x17, 0x20, 0x21, 0x22, 0x24, 0x40, 0x41, 0x42] {
+            let mut lines = vec![double(start), double(5.0), Line::step(0x17, 0, 0)];
+            while lines.len() < MOST_STEPS {
                 let last = lines.len() - 1;
                 let b = if opcode >= 0x20 { 1 } else { 0 };
                 lines.push(Line::step(opcode, last, b));
             }
             let marks = marks(&lines);
-            assert_eq!(marks[2..], vec![mark; steps - 2], "{start} {opcode:02x}");
+            assert_eq!(
+                marks[2..],
+                vec![mark; MOST_STEPS - 2],
+                "{start} {opcode:02x}"
+            );
         }
     }
 }
@@ -106,12 +102,6 @@ fn one_keeper_again_and_again() {
 /// chooses the other operand; a rounding brings it back, until it is lost again.
 #[test]
 fn lost_and_brought_back() {
-    for steps in MOST_STEPS {
-        lost_and_brought_back_in(steps);
-    }
-}
-
-fn lost_and_brought_back_in(steps: usize) {
     let mut lines = vec![
         Line::input_of([-2.5, 7.25]),
         double(3.0),
@@ -132,7 +122,7 @@ fn lost_and_brought_back_in(steps: usize) {
             (0x17, 0, false),
             (0x20, 1, false),
         ] {
-            if lines.len() == steps {
+            if lines.len() == MOST_STEPS {
                 break 'rounds;
             }
             lines.push(Line::step(opcode, last, b));
@@ -174,16 +164,9 @@ fn an_infinite_constant_takes_the_mark_and_leaves_the_range() {
     assert_eq!(marks, expected);
 }
 
-/// Step 127 or 511 on step 0 or 1 with everything else between them: no mark is taken from a neighbour, or
-/// from the step whose number has the same last digits.
+/// Step 127 on step 0 or 1 with everything else between them: no mark is taken from a neighbour.
 #[test]
 fn the_last_step_on_the_first() {
-    for steps in MOST_STEPS {
-        the_last_of(steps);
-    }
-}
-
-fn the_last_of(steps: usize) {
     for (between, others) in [(double(1.0), true), (double(0.5), false)] {
         for (a, mark) in [(0, true), (1, false)] {
             for step in [
@@ -196,10 +179,10 @@ fn the_last_of(steps: usize) {
                 Line::step(0x42, a, a),
             ] {
                 let mut lines = vec![double(2.0), double(2.5)];
-                lines.resize(steps - 1, between);
+                lines.resize(MOST_STEPS - 1, between);
                 lines.push(step);
                 let mut expected = vec![true, false];
-                expected.resize(steps - 1, others);
+                expected.resize(MOST_STEPS - 1, others);
                 expected.push(mark);
                 assert_eq!(marks(&lines), expected, "{step:?}");
             }

@@ -6,8 +6,7 @@ use estrenwind_tests::patterns::edges;
 use estrenwind_tests::recipes::limits::{INF, LEAST, MAX, MOST, TINY, TWO_63};
 use estrenwind_tests::recipes::shown::is_finite_and_integral;
 use estrenwind_tests::recipes::{Ends, Line};
-use estrenwind_tests::reference::recipe::form::MOST_STEPS;
-use estrenwind_tests::reference::recipe::text::MOST_INPUTS;
+use estrenwind_tests::reference::recipe::text::{MOST_INPUTS, MOST_STEPS};
 use estrenwind_tests::reference::recipe::Kind;
 use estrenwind_tests::reference::{Class, BINARY64};
 

@@ -4,8 +4,8 @@
 use super::marks;
 use estrenwind_tests::recipes::limits::{INF, MAX, TWO_53};
 use estrenwind_tests::recipes::Line;
-use estrenwind_tests::reference::recipe::form::MOST_STEPS;
-use estrenwind_tests::reference::recipe::{Form, Kind, OPERATIONS};
+use estrenwind_tests::reference::recipe::text::MOST_STEPS;
+use estrenwind_tests::reference::recipe::{Kind, OPERATIONS};
 use std::collections::BTreeSet;
 
 // The steps that the rows work on, by their places. Doubles with the mark:
@@ -246,12 +246,12 @@ const ROWS: &[Row] = &[
     (0x32, LARGE,          NONE,           YES, "32, up to 2^53"),
 ];
 
-/// Right behind the operands, and as the last of 128 or 512 steps, behind numbers that it doesn't work on.
+/// Right behind the operands, and as the last of 128 steps, behind numbers that it doesn't work on.
 #[test]
 fn every_row_of_the_rule() {
     let operands = operands();
     for &(opcode, a, b, mark, why) in ROWS {
-        for steps in [operands.len() + 1, Form::Short.most_steps(), MOST_STEPS] {
+        for steps in [operands.len() + 1, MOST_STEPS] {
             let mut lines = operands.clone();
             let number = if mark { 0.5f64 } else { 1.0 };
             lines.resize(steps - 1, Line::constant(Kind::Double, number.to_bits()));

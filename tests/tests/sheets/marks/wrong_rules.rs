@@ -184,7 +184,7 @@ impl Tried {
             words
         };
         let runs = frames(random, &draft).into_iter().map(run).collect();
-        let shown = read(draft.form, &sheet);
+        let shown = read(&sheet);
         Tried { draft, shown, runs }
     }
 
@@ -194,7 +194,7 @@ impl Tried {
         let mut besides = Vec::new();
         for (place, (line, &shown)) in self.draft.lines.iter().zip(&self.shown).enumerate() {
             let operation = line.operation().expect("an opcode");
-            let operand = |used: bool, place: u16| used.then(|| marked[place as usize]);
+            let operand = |used: bool, place: u8| used.then(|| marked[place as usize]);
             let step = Step {
                 opcode: line.opcode,
                 shown,

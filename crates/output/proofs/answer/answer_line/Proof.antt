@@ -19,13 +19,13 @@ same_length : tie.Need-same-length
 same_length c = search rules
 
 returns : tie.Need-returns
-returns c = (c.before.before.refusal-line.ensures.0, c.before.before.refusal-line.ensures.1 ∙ sym (answer_refused _ c.before.before.before.before.before.before.before.args.a c.before.before.before.before.if1.true), c.before.before.refusal-line.ensures.2)
+returns c = (c.before.before.refusal-line.ensures.0, c.before.before.refusal-line.ensures.1 ∙ sym (answer_refused c.before.before.before.before.before.before.before.args.a c.before.before.before.before.if1.true), c.before.before.refusal-line.ensures.2)
 
 slice-relend-prefix-write : tie.Need-slice-relend-prefix-write
 slice-relend-prefix-write c = search rules
 
 slice-aggregate-write : tie.Need-slice-aggregate-write
-slice-aggregate-write c = let s = c.before.before.before.before in sym (length-take-le 2 s.args.out.now (omega (arith, s.requires)))
+slice-aggregate-write c = sym (length-take-le 2 c.before.before.before.before.args.out.now (omega arith))
 
 write-requires : tie.Need-write-requires
 write-requires c κs = search rules
@@ -49,7 +49,7 @@ same-length-2 : tie.Need-same-length-2
 same-length-2 c =
     let s = c.before.before.before.before.before.before.before.before.before.before.before in
     let line = s.args.out.now in
-    answer_same line c.before.before.before.before.before.before.write.new.1.0 c.before.before.write2.new.1.0 s.requires.1
+    answer_same line c.before.before.before.before.before.before.write.new.1.0 c.before.before.write2.new.1.0 s.requires
     (ap length c.before.before.before.before.before.before.write.ensures ∙ length_digits _ _ ∙ length-take-le 2 line (omega (arith, s.requires)))
     (ap length c.before.before.write2.ensures ∙ length_digits _ _ ∙ c.before.before.before.write-arg2.given.2)
 
@@ -58,10 +58,10 @@ returns-2 c =
     let s = c.before.before.before.before.before.before.before.before.before.before.before in
     let line = s.args.out.now in (
       omega arith,
-      answer_written s.args.digits s.args.a line c.before.before.before.before.before.before.write.new.1.0 c.before.before.write2.new.1.0 s.requires.1 c.before.before.before.before.before.before.before.before.if1.false
+      answer_written s.args.a line c.before.before.before.before.before.before.write.new.1.0 c.before.before.write2.new.1.0 s.requires c.before.before.before.before.before.before.before.before.if1.false
           (c.before.before.before.before.before.before.write.ensures ∙ ap (λ (k : ℕ). digits k s.args.a.kind) (length-take-le 2 line (omega (arith, s.requires))))
           (c.before.before.write2.ensures ∙ ap (λ (k : ℕ). digits k s.args.a.word) c.before.before.before.write-arg2.given.2),
-      answer_rest line c.before.before.before.before.before.before.write.new.1.0 c.before.before.write2.new.1.0 s.requires.1
+      answer_rest line c.before.before.before.before.before.before.write.new.1.0 c.before.before.write2.new.1.0 s.requires
           (ap length c.before.before.before.before.before.before.write.ensures ∙ length_digits _ _ ∙ length-take-le 2 line (omega (arith, s.requires)))
           (ap length c.before.before.write2.ensures ∙ length_digits _ _ ∙ c.before.before.before.write-arg2.given.2),
     )

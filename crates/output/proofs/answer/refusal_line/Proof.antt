@@ -1,5 +1,6 @@
 -- `refusal_line` meets its contract. Assumes nothing.
-use Rattle.programs.specs.Output.{refusal_line}
+use mathlib.Core.Path.{◌∙◌}
+use Rattle.output.proofs.Written.{refusal_is}
 use borrow.Author.Rules.{rules}
 use Rattle.output.proofs.answer.refusal_line.Statement.{statement}
 use Rattle.output.proofs.answer.refusal_line.Tie as tie
@@ -11,8 +12,7 @@ same_length : tie.Need-same-length
 same_length c = search rules
 
 returns : tie.Need-returns
-unfolding refusal_line
-returns c = c.before.before.fields-line.ensures
+returns c = let o = c.before.before.fields-line.ensures in let a = c.before.before.before.before.before.args in (o.0, o.1 ∙ refusal_is a.number a.place, o.2)
 
 pub refusal-line-spec : {M : Type 1} → statement M
 refusal-line-spec = tie.close (tie.spec fields-line-requires same_length returns)

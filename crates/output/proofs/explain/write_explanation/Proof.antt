@@ -1,24 +1,12 @@
 -- `write_explanation` meets its contract, by the explain call's answer. Assumes nothing.
-use mathlib.Core.Path.{◌≡◌, ap, ◌∙◌}
-use mathlib.Core.Bool.{Bool}
-use Rattle.recipe.specs.Text.{digits_by, number_digits}
+use mathlib.Core.Path.{◌∙◌}
 use Rattle.programs.proofs.Explanations.{line_refused, line_named, line_passed}
 use borrow.Author.Rules.{rules}
 use Rattle.output.proofs.explain.write_explanation.Statement.{statement}
 use Rattle.output.proofs.explain.write_explanation.Tie as tie
 
--- the digits are those of the text's form
-told : (c : tie.After-number-digits) → c.number_digits.result ≡ number_digits c.before.before.before.before.before.args.text.now
-told c = c.number_digits.ensures.0 ∙ ap (λ (x : Bool). digits_by x) c.before.is-long.ensures
-
 explain-requires : tie.Need-explain-requires
 explain-requires c κs = search rules
-
-is-long-requires : tie.Need-is-long-requires
-is-long-requires c κs = search rules
-
-number-digits-requires : tie.Need-number-digits-requires
-number-digits-requires c κs = search rules
 
 refusal-line-requires : tie.Need-refusal-line-requires
 refusal-line-requires c κs = search rules
@@ -27,22 +15,16 @@ same_length : tie.Need-same-length
 same_length c = search rules
 
 returns : tie.Need-returns
-returns c =
-    let o = c.before.before.refusal-line.ensures in
-    let g = c.before.before.before.before.before.before.before.before.explain in
-    (o.0, o.1 ∙ rw (told c.before.before.before.before.before.before) (line_refused c.before.before.before.before.before.before.before.before.before.before.before.args.text.now g.result g.ensures c.before.before.before.before.if1.true), o.2)
+returns c = let o = c.before.before.refusal-line.ensures in let g = c.before.before.before.before.before.before.explain in (o.0, o.1 ∙ line_refused c.before.before.before.before.before.before.before.before.before.args.text.now g.result g.ensures c.before.before.before.before.if1.true, o.2)
 
-reason-line-requires : tie.Need-reason-line-requires
-reason-line-requires c κs = search rules
+fields-line-requires : tie.Need-fields-line-requires
+fields-line-requires c κs = search rules
 
 same-length-2 : tie.Need-same-length-2
 same-length-2 c = search rules
 
 returns-2 : tie.Need-returns-2
-returns-2 c =
-    let o = c.before.before.reason-line.ensures in
-    let g = c.before.before.before.before.before.before.before.before.before.before.explain in
-    (o.0, o.1 ∙ rw (told c.before.before.before.before.before.before.before.before) (line_named c.before.before.before.before.before.before.before.before.before.before.before.before.before.args.text.now g.result g.ensures c.before.before.before.before.before.before.if1.false c.before.before.before.before.if2.true), o.2)
+returns-2 c = let o = c.before.before.fields-line.ensures in let g = c.before.before.before.before.before.before.before.before.explain in (o.0, o.1 ∙ line_named c.before.before.before.before.before.before.before.before.before.before.before.args.text.now g.result g.ensures c.before.before.before.before.before.before.if1.false c.before.before.before.before.if2.true, o.2)
 
 passed-line-requires : tie.Need-passed-line-requires
 passed-line-requires c κs = search rules
@@ -51,22 +33,17 @@ same-length-3 : tie.Need-same-length-3
 same-length-3 c = search rules
 
 returns-3 : tie.Need-returns-3
-returns-3 c =
-    let o = c.before.before.passed-line.ensures in
-    let g = c.before.before.before.before.before.before.before.before.before.before.explain in
-    (o.0, o.1 ∙ line_passed c.before.before.before.before.before.before.before.before.before.before.before.before.before.args.text.now g.result g.ensures c.before.before.before.before.before.before.if1.false c.before.before.before.before.if2.false, o.2)
+returns-3 c = let o = c.before.before.passed-line.ensures in let g = c.before.before.before.before.before.before.before.before.explain in (o.0, o.1 ∙ line_passed c.before.before.before.before.before.before.before.before.before.before.before.args.text.now g.result g.ensures c.before.before.before.before.before.before.if1.false c.before.before.before.before.if2.false, o.2)
 
 pub write-explanation-spec : {M : Type 1} → statement M
 write-explanation-spec =
     tie.close
     (tie.spec
     explain-requires
-    is-long-requires
-    number-digits-requires
     refusal-line-requires
     same_length
     returns
-    reason-line-requires
+    fields-line-requires
     same-length-2
     returns-2
     passed-line-requires

@@ -9,15 +9,15 @@ use Rattle.stream.proofs.frames.answer_lines.Statement.{statement}
 use Rattle.stream.proofs.frames.answer_lines.Tie as tie
 
 abbrev invariant-loop : tie.invariant-loop
-invariant-loop steps digits s from out₀ i₀ put₀ out i put = Going digits steps s from out₀ out i put
+invariant-loop steps s from out₀ i₀ put₀ out i put = Going steps s from out₀ out i put
 
 abbrev decreases-loop : tie.decreases-loop
-decreases-loop steps digits s from out₀ i₀ put₀ out i put = length s - i
+decreases-loop steps s from out₀ i₀ put₀ out i put = length s - i
 
 loop-holds : tie.Need-loop-init invariant-loop decreases-loop
 loop-holds c =
     let a = c.before.before.before.args in
-    going_none a.digits a.steps.now a.s.now a.from a.out.now c.before.before.before.requires.1
+    going_none a.steps.now a.s.now a.from a.out.now c.before.before.before.requires.0
 
 sub-loop : tie.Need-overflow-sub-loop invariant-loop decreases-loop
 sub-loop c = omega (arith, c.loop.invariant.room, c.loop.invariant.out_length)
@@ -34,7 +34,7 @@ returns c =
     let l = c.before.before.before.loop in
     let e = c.before.line-end.result in
     let h : e ≡ length a.s.now = omega (arith, c.if1.true, c.before.line-end.ensures.within) in
-    (l.invariant.room, going_rest a.digits a.steps.now a.s.now a.from a.out.now l.out l.i l.put l.invariant e c.before.line-end.ensures h c.before.before.before.before.before.before.before.requires.2, l.invariant.rest)
+    (l.invariant.room, going_rest a.steps.now a.s.now a.from a.out.now l.out l.i l.put l.invariant e c.before.line-end.ensures h c.before.before.before.before.before.before.before.requires.1, l.invariant.rest)
 
 sub-frame-line : tie.Need-overflow-sub-frame-line invariant-loop decreases-loop
 sub-frame-line c = omega (arith, c.before.line-end.ensures.after)
@@ -55,7 +55,7 @@ part-frame-line-end-2 : tie.Need-slice-bounds-frame-line-end-2 invariant-loop de
 part-frame-line-end-2 c = omega arith
 
 frame-line-requires : tie.Need-frame-line-requires invariant-loop decreases-loop
-frame-line-requires c κs = (c.before.before.before.before.before.before.before.before.before.requires.0, omega (arith, c.frame-line-arg2.given.2, c.before.before.before.before.loop-test.true))
+frame-line-requires c κs = omega (arith, c.frame-line-arg2.given.2, c.before.before.before.before.loop-test.true)
 
 add-put : tie.Need-overflow-add-put invariant-loop decreases-loop
 add-put c = omega (arith, c.before.before.frame-line.ensures.0, c.before.before.before.before.before.before.before.before.loop.invariant.room)
@@ -72,8 +72,8 @@ loop-again c =
     let l = c.before.before.before.before.before.before.before.before.loop in
     let e = c.before.before.before.before.before.before.line-end.result in
     let h : e < length a.s.now = omega (arith, c.before.before.before.before.before.before.line-end.ensures.within, c.before.before.before.before.before.if1.false) in
-    going_more a.digits a.steps.now a.s.now a.from a.out.now l.out l.i l.put l.invariant
-    e c.before.before.frame-line.result c.before.before.frame-line.new.1.1.1.0 c.before.before.before.before.before.before.line-end.ensures h c.before.before.frame-line.ensures.0 c.before.before.before.before.before.before.before.loop-test.true
+    going_more a.steps.now a.s.now a.from a.out.now l.out l.i l.put l.invariant
+    e c.before.before.frame-line.result c.before.before.frame-line.new.1.1.0 c.before.before.before.before.before.before.line-end.ensures h c.before.before.frame-line.ensures.0 c.before.before.before.before.before.before.before.loop-test.true
     (c.before.out.given.0 ∙ c.before.before.before.frame-line-arg2.given.2) c.before.before.frame-line.ensures.2 c.before.out.given.1 c.before.before.frame-line.ensures.1
 
 same-length-2 : tie.Need-same-length-2 invariant-loop decreases-loop
@@ -83,7 +83,7 @@ returns-2 : tie.Need-returns-2 invariant-loop decreases-loop
 returns-2 c =
     let a = c.before.before.before.before.before.args in
     let l = c.before.loop in
-    (l.invariant.room, going_full a.digits a.steps.now a.s.now a.from a.out.now l.out l.i l.put l.invariant c.before.before.before.before.before.requires.2 c.loop-test.false, l.invariant.rest)
+    (l.invariant.room, going_full a.steps.now a.s.now a.from a.out.now l.out l.i l.put l.invariant c.before.before.before.before.before.requires.1 c.loop-test.false, l.invariant.rest)
 
 pub answer-lines-spec : {M : Type 1} → statement M
 answer-lines-spec =

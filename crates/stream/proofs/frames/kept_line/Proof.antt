@@ -15,7 +15,7 @@ same_length : tie.Need-same-length
 same_length c = search rules
 
 returns : tie.Need-returns
-returns c = (c.before.before.refusal-line.ensures.0, λ l line g k. c.before.before.refusal-line.ensures.1 ∙ sym (frame-long _ l line (k.long c.before.before.before.before.if1.true)), c.before.before.refusal-line.ensures.2)
+returns c = (c.before.before.refusal-line.ensures.0, λ l line g k. c.before.before.refusal-line.ensures.1 ∙ sym (frame-long l line (k.long c.before.before.before.before.if1.true)), c.before.before.refusal-line.ensures.2)
 
 slice-aggregate-frame-line : tie.Need-slice-aggregate-frame-line
 slice-aggregate-frame-line c = sym (length-take-le c.before.before.before.before.before.args.n c.before.before.before.before.before.args.buffer.now (omega arith))
@@ -27,7 +27,7 @@ same-length-2 : tie.Need-same-length-2
 same-length-2 c = search rules
 
 returns-2 : tie.Need-returns-2
-returns-2 c = (c.before.before.frame-line.ensures.0, λ l line g k. c.before.before.frame-line.ensures.1 l g ∙ ap (frame_line _ l) (sym (k.whole c.before.before.before.before.before.if1.false)), c.before.before.frame-line.ensures.2)
+returns-2 c = (c.before.before.frame-line.ensures.0, λ l line g k. c.before.before.frame-line.ensures.1 l g ∙ ap (frame_line l) (sym (k.whole c.before.before.before.before.before.if1.false)), c.before.before.frame-line.ensures.2)
 
 pub kept-line-spec : {M : Type 1} → statement M
 kept-line-spec =

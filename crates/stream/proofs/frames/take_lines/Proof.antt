@@ -33,7 +33,7 @@ returns-2 c =
       o.1.moved c.if2.true,
       o.1.within,
       o.0,
-      λ l line g k f. rw (kept_none line a.buffer.now a.count k (omega arith)) (handled_full a.digits l a.steps.now a.chunk.now a.from r c.before.before.before.answer-lines.new.1.1.1.1.0 o.1 g a.buffer.now),
+      λ l line g k f. rw (kept_none line a.buffer.now a.count k (omega arith)) (handled_full l a.steps.now a.chunk.now a.from r c.before.before.before.answer-lines.new.1.1.1.0 o.1 g a.buffer.now),
       o.2,
       refl,
     )
@@ -62,12 +62,12 @@ returns-3 c =
     let r = c.before.before.before.before.before.before.before.before.answer-lines.result in
     let o = c.before.before.before.before.before.before.before.before.answer-lines.ensures in
     let z : a.count ≡ 0 = omega (arith, c.before.before.before.before.before.before.before.before.before.before.if1.false) in (
-      c.before.before.before.before.before.before.before.before.before.before.before.before.before.before.before.requires.2,
+      c.before.before.before.before.before.before.before.before.before.before.before.before.before.before.before.requires.1,
       omega arith,
       o.0,
       λ l line g k f.
           rw (kept_none line a.buffer.now a.count k z)
-          (handled_rest a.digits l a.steps.now a.chunk.now a.from r c.before.before.before.before.before.before.before.before.answer-lines.new.1.1.1.1.0 o.1 g c.before.before.keep.result c.before.before.keep.new.0 c.before.before.before.before.before.if2.false (c.before.before.keep.ensures.0 [] (kept_nothing a.buffer.now))),
+          (handled_rest l a.steps.now a.chunk.now a.from r c.before.before.before.before.before.before.before.before.answer-lines.new.1.1.1.0 o.1 g c.before.before.keep.result c.before.before.keep.new.0 c.before.before.before.before.before.if2.false (c.before.before.keep.ensures.0 [] (kept_nothing a.buffer.now))),
       o.2,
       c.before.before.keep.ensures.1,
     )

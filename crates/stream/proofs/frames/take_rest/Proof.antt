@@ -36,7 +36,7 @@ returns c =
       omega (arith, d.after, c.if1.true),
       d.within,
       omega arith,
-      λ l line g k f. handled_part a.digits l line a.chunk.now a.from e d c.before.before.before.keep.result c.before.before.before.keep.new.0 (c.before.before.before.keep.ensures.0 line k) f,
+      λ l line g k f. handled_part l line a.chunk.now a.from e d c.before.before.before.keep.result c.before.before.before.keep.new.0 (c.before.before.before.keep.ensures.0 line k) f,
       refl,
       c.before.before.before.keep.ensures.1,
     )
@@ -44,8 +44,8 @@ returns c =
 kept-line-requires : tie.Need-kept-line-requires
 kept-line-requires c κs = search rules
 
-add-t14 : tie.Need-overflow-add-t14
-add-t14 c = search rules
+add-t13 : tie.Need-overflow-add-t13
+add-t13 c = search rules
 
 same-length-2 : tie.Need-same-length-2
 same-length-2 c = search rules
@@ -61,9 +61,9 @@ returns-2 c =
     let h : e < length a.chunk.now = omega (arith, d.within, c.before.before.before.before.before.if1.false) in (
       omega (arith, d.after),
       omega arith,
-      omega (arith, c.before.before.Kept-line.ensures.0, c.before.before.before.before.before.before.before.before.before.before.before.before.before.before.before.before.requires.3),
+      omega (arith, c.before.before.Kept-line.ensures.0, c.before.before.before.before.before.before.before.before.before.before.before.before.before.before.before.before.requires.2),
       λ l line g k f.
-          handled_line a.digits l line a.chunk.now a.from e d c.before.before.before.before.before.before.before.before.keep.new.0 _ h
+          handled_line l line a.chunk.now a.from e d c.before.before.before.before.before.before.before.before.keep.new.0 _ h
           (c.before.before.Kept-line.ensures.1 l (line ++ between a.from e a.chunk.now) g (c.before.before.before.before.before.before.before.before.keep.ensures.0 line k)),
       c.before.before.Kept-line.ensures.2,
       c.before.before.before.before.before.before.before.before.keep.ensures.1,
@@ -81,7 +81,7 @@ take-rest-spec =
     same_length
     returns
     kept-line-requires
-    add-t14
+    add-t13
     same-length-2
     same-length-3
     returns-2)
