@@ -1,5 +1,7 @@
 // Many frames of one recipe in one call: frame lines answered as the run program answers them, the recipe's text read once (document 01, "Sheet
 // and run on paper").
+#![tactic(auto)]
+
 ghost use Rattle.std.specs.Prelude.{◌≡◌, length};
 ghost use Rattle.programs.specs.Batch.{refused, answer_of, bytes_of, batch_of};
 

@@ -1,4 +1,6 @@
 // The C library: each exported function is one call of the layer that has it. include/estrenwind.h declares them.
+#![tactic(auto)]
+
 ghost use Rattle.std.specs.Prelude.{◌≡◌, List, length};
 ghost use Rattle.float_format.specs.Format.{binary16, binary32, binary64, classify, class_number, absolute, negated};
 ghost use Rattle.float_format.specs.Rounding.{integral, lround_refusal, lround_value};

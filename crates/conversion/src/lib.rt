@@ -1,4 +1,6 @@
 // Halves and singles: binary16 taken to binary32 exactly, and back, rounded once (document 02, W-201).
+#![tactic(auto)]
+
 ghost use Rattle.std.specs.Prelude.{◌≡◌};
 ghost use Rattle.float_format.specs.Format.{binary16, binary32};
 ghost use Rattle.conversion.specs.Conversion.{converted, converted_refusal};

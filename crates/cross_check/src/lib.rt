@@ -1,6 +1,8 @@
 // For the tests and the benchmark alone, and no part of the C library: sums, differences and products in whole numbers, which is what the steps
 // call, and by the language's own operations on floats. Both have one contract on finite numbers, so that they are the same function
 // wherever the host's mode is the default one; in any other, only the first is what was proved.
+#![tactic(auto)]
+
 ghost use Rattle.std.specs.Prelude.{◌≡◌};
 ghost use Rattle.float_format.specs.Format.{binary64};
 ghost use Rattle.arithmetic.specs.Arithmetic.{sum, difference, product};

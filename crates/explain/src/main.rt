@@ -3,6 +3,8 @@
 // standard output not be written, it says so on standard error.
 //
 // No more than 4,993 bytes are read: a text that long is refused by its length, however it goes on.
+#![tactic(auto)]
+
 use output::LINE;
 use programs::LOOKED_AT;
 

@@ -1,4 +1,6 @@
 // Why a recipe's sheet is refused (document 02, W-205): the step, the operand and the reason's code.
+#![tactic(auto)]
+
 ghost use Rattle.std.specs.Prelude.{◌≡◌, List, [], ◌*◌, ◌≤◌, length};
 ghost use Rattle.recipe.specs.declared.Step.{Step};
 ghost use Rattle.recipe.specs.Text.{most_steps};

@@ -1,4 +1,6 @@
 // Formats of binary floating point: a type a width, with its field sizes, its default NaN and the functions that read a pattern.
+#![tactic(auto)]
+
 ghost use Rattle.std.specs.Prelude.{◌≡◌};
 ghost use Rattle.float_format.specs.Format.{binary16, binary32, binary64, classify, class_number, is_nan, quieted, absolute, negated};
 ghost use Rattle.float_format.specs.Number.{rank};

@@ -1,4 +1,6 @@
 // Reading a frame for a recipe's inputs: the words, and refusals 30 to 32 (document 01, "Turning text down").
+#![tactic(auto)]
+
 ghost use Rattle.std.specs.Prelude.{◌≡◌, cond, List, [], ℕ, ◌+◌, ◌*◌, ◌%◌, ◌^◌, ◌≤◌, length};
 ghost use Rattle.recipe.specs.Table.{row_of, is_input};
 ghost use Rattle.recipe.specs.Text.{most_steps, inputs_in};

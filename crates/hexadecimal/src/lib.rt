@@ -1,4 +1,6 @@
 // Numbers as lower-case hexadecimal digits: read from text, and written to it.
+#![tactic(auto)]
+
 ghost use Rattle.std.specs.Prelude.{◌≡◌, ◌<◌, length};
 ghost use Rattle.hexadecimal.specs.Hex.{digit_of, word_field, glyph_of, digits};
 

@@ -5,6 +5,8 @@
 // then rounding the exact number (`packed`), once, subnormal answers and overflow included. The width is open: `fraction` and
 // `exponent` are a format's field sizes, which binary64 hands over as numbers, so that the compiler folds them. A pattern that is not finite
 // counts by its units, as in the definitions.
+#![tactic(auto)]
+
 ghost use Rattle.std.specs.Prelude.{◌≡◌, Bool, ◌⊎◌, ℕ, ◌+◌, ◌-◌, ◌*◌, ◌^◌, ◌<◌, ◌≤◌};
 ghost use Rattle.std.specs.Float.Ieee.{unlike};
 ghost use Rattle.float_format.specs.Format.{sign_bit, infinity, negative, unsigned, signed};

@@ -1,4 +1,6 @@
 // The whole mark of a step (document 02, W-203; W-204 for step 24, W-208 for 40 to 42).
+#![tactic(auto)]
+
 ghost use Rattle.std.specs.Prelude.{◌≡◌, ◌&&◌, ◌||◌, eqb};
 ghost use Rattle.float_format.specs.Format.{binary64};
 ghost use Rattle.float_format.specs.Number.{is_integral};

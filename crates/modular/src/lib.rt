@@ -4,6 +4,8 @@
 // does not fit a word, so it is taken in two halves of 28 bits. Each half is reduced by an estimate of its quotient, from the leading bits of the
 // residue and a reciprocal of the modulus's leading bits, that is at most one too small. What the estimate leaves is below twice the modulus, so
 // that it is known from the products' low words alone.
+#![tactic(auto)]
+
 ghost use Rattle.std.specs.Prelude.{◌≡◌, ◌+◌, ◌*◌, ◌/◌, ◌%◌, ◌^◌, ◌<◌, ◌≤◌};
 ghost use Rattle.modular.specs.Modulus.{Modulus};
 

@@ -5,6 +5,8 @@
 // the exponents lie close, one division of words does; beyond, the power of two between them is worked out modulo eight times the divisor, in as
 // many turns as its exponent has digits. The pieces are small, and each width's function is put together from them, so that the compiler folds the
 // sizes.
+#![tactic(auto)]
+
 ghost use Rattle.std.specs.Prelude.{◌≡◌, true, cond, ◌+◌, ◌-◌, ◌*◌, ◌/◌, ◌%◌, ◌^◌, ◌<◌, ◌≤◌, ltb};
 ghost use Rattle.std.specs.Float.Ieee.{unlike};
 ghost use Rattle.float_format.specs.Format.{sign_bit, default_nan, negative, unsigned};

@@ -5,6 +5,8 @@
 // ranks in nextafter: a comparison of floats would give other answers where the host takes subnormals for zeros. What is rare is a branch
 // (NaNs, and in nextafter zeros and equal operands); the rest are selects, since a branch on which of two numbers is smaller costs more
 // than it saves. fmin and fmax take -0 as below +0; in nextafter the two are equal.
+#![tactic(auto)]
+
 ghost use Rattle.std.specs.Prelude.{◌≡◌, ◌*◌, ◌<◌};
 ghost use Rattle.float_format.specs.Format.{sign_bit};
 ghost use Rattle.float_format.specs.Width.{format, InWord};

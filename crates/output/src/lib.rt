@@ -1,4 +1,6 @@
 // What the programs put out: a refusal's line, the answer to a frame, a sheet, an explanation.
+#![tactic(auto)]
+
 mod answer;
 mod explain;
 mod sheet;

@@ -1,6 +1,8 @@
 // What the programs write, how far the run program is in its input (document 01, "Sheet and run on paper"), and the call that answers many
 // frame lines. Types and numbers alone: `specs/` has the definitions, `proofs/` what holds of them, and the functions stand in `stream` and
 // `batch`.
+#![tactic(auto)]
+
 use recipe::LONGEST_TEXT;
 
 // The bytes in which an empty line is looked for: those of the longest recipe, and the line feed after it.

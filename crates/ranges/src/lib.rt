@@ -1,4 +1,6 @@
 // Ranges, and the range rules.
+#![tactic(auto)]
+
 pub mod bounds;
 mod ranges;
 

@@ -1,4 +1,6 @@
 // Recipes: text read to steps, or turned down with the number and the place of the first fault (document 01, "Recipe text").
+#![tactic(auto)]
+
 ghost use Rattle.std.specs.Prelude.{◌≡◌, ◌*◌, ◌≤◌, length};
 ghost use Rattle.recipe.specs.Text.{most_steps, short, read_text, bad_length};
 ghost use Rattle.recipe.specs.Answer.{Says, Leaves, Refused};

@@ -1,5 +1,6 @@
 // Recipes: what a step is, and what the reader answers (document 01, "Recipe text"). Types alone: `specs/` defines what they mean, `proofs/`
 // shows what holds of that, and the functions stand in the crates above.
+#![tactic(auto)]
 
 // The most steps that a recipe has.
 pub const MOST_STEPS: usize = 128;

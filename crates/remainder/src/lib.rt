@@ -4,6 +4,8 @@
 // eleven binary digits a turn: the leading digits of both numbers give an estimate of the quotient that is at most one too small, and
 // one subtraction puts that right. Up to eleven digits one division of 32 bits does; beyond, a reciprocal is worked out once and each
 // turn multiplies. The pieces are small, and each width's function is put together from them, so that the compiler folds the sizes.
+#![tactic(auto)]
+
 ghost use Rattle.std.specs.Prelude.{◌≡◌, ◌+◌, ◌-◌, ◌*◌, ◌/◌, ◌%◌, ◌^◌, ◌<◌, ◌≤◌, ltb, true};
 ghost use Rattle.float_format.specs.Format.{sign_bit, default_nan, unsigned};
 ghost use Rattle.float_format.specs.Width.{format, InWord};

@@ -4,6 +4,8 @@
 // over as numbers, so that the compiler folds them. A rounding has one branch, for what is not finite. For the rest it works out two
 // answers, one that is right from one on and one that is right below, and picks by the exponent field e: that costs less than a
 // branch that is taken now and then.
+#![tactic(auto)]
+
 ghost use Rattle.std.specs.Prelude.{◌≡◌, ◌+◌, ◌-◌, ◌*◌, ◌/◌, ◌%◌, ◌^◌, ◌<◌, ◌≤◌};
 ghost use Rattle.float_format.specs.Format.{sign_bit, top_field, exponent_field};
 ghost use Rattle.float_format.specs.Number.{bias};

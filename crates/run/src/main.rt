@@ -7,6 +7,8 @@
 // What `main` does between its system calls is a `Course` (`programs/specs/Course.antt`): it is in the loop's invariant, so that each chunk is
 // fed from its first byte to its last before the next is read, and the front of the output after each feed is known. By `any_chunks`, all of these
 // together are the output that the rules ask for. That `write` is handed this front is to be read below: it ensures nothing that could say so.
+#![tactic(auto)]
+
 use stream::{feed, finish, is_done};
 
 // How many bytes are read at a time, and how many of the output are gathered before they are written.

@@ -1,4 +1,6 @@
 // Running a recipe on a frame (document 01, "Recipe text", "Turning text down" and "The terms of demand 3").
+#![tactic(auto)]
+
 ghost use Rattle.std.specs.Prelude.{◌≡◌, List, [], ℕ, ◌*◌, ◌≤◌, length};
 ghost use Rattle.recipe.specs.declared.Step.{Step};
 ghost use Rattle.recipe.specs.Text.{most_steps, steps, short, read_text};

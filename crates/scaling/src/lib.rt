@@ -3,6 +3,8 @@
 // The work is done once, with the width open: `fraction` and `exponent` are a format's field sizes, which each width's module hands
 // over as numbers, so that the compiler folds them. Both go by the significand: a normal number has its leading one in place, and a
 // subnormal one is brought there by one shift. The pieces are small, so that the compiler puts each width's function together in one.
+#![tactic(auto)]
+
 ghost use Rattle.std.specs.Prelude.{◌≡◌, ◌+◌, ◌-◌, ◌*◌, ◌^◌, ◌<◌, pos, ◌-ℤ◌};
 ghost use Rattle.float_format.specs.Format.{sign_bit, unsigned};
 ghost use Rattle.float_format.specs.Number.{bias};

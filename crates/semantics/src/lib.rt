@@ -1,5 +1,7 @@
 // What a recipe means: the values of its steps on a frame, their ranges, and what a passed sheet promises. Types and numbers alone: `specs/`
 // has the definitions, `proofs/` what holds of them, and the functions stand in the crates above.
+#![tactic(auto)]
+
 use recipe::MOST_STEPS;
 
 // The bytes of a sheet's line, and of the longest sheet.

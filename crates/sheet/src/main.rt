@@ -2,6 +2,8 @@
 // paper"). Where standard input cannot be read, or standard output not be written, it says so on standard error.
 //
 // No more than 4,993 bytes are read: a text that long is refused by its length, however it goes on.
+#![tactic(auto)]
+
 use programs::LOOKED_AT;
 use semantics::LONGEST_SHEET;
 

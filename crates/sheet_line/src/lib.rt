@@ -1,4 +1,6 @@
 // A line of a sheet (document 01, "Sheet and run on paper"; document 02, W-203).
+#![tactic(auto)]
+
 ghost use Rattle.std.specs.Prelude.{◌≡◌, ◌+◌, ◌*◌, ◌<◌, length};
 ghost use Rattle.recipe.specs.Table.{kind_number};
 ghost use Rattle.recipe.specs.Text.{most_steps};

@@ -1,5 +1,7 @@
 // The sheet of a recipe: the range and the mark of every step (document 01, "Recipe text", "Turning text down" and "Sheet and run on paper";
 // document 02, W-203).
+#![tactic(auto)]
+
 ghost use Rattle.std.specs.Prelude.{◌≡◌, List, [], ◌*◌, ◌≤◌, length};
 ghost use Rattle.recipe.specs.declared.Step.{Step};
 ghost use Rattle.recipe.specs.Text.{most_steps};

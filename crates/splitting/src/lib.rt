@@ -2,6 +2,8 @@
 //
 // The work is done once, with the width open: `fraction` and `exponent` are a format's field sizes, which each width's module hands
 // over as numbers, so that the compiler folds them. A number from one on that has a fraction is the common case, and is tested for first.
+#![tactic(auto)]
+
 ghost use Rattle.std.specs.Prelude.{◌≡◌, ◌+◌, ◌*◌, ◌<◌, ◌≤◌};
 ghost use Rattle.float_format.specs.Format.{sign_bit, exponent_field};
 ghost use Rattle.float_format.specs.Number.{bias};

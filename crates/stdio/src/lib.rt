@@ -2,6 +2,8 @@
 // descriptor that is not ready, after a pause. Every other failure is the caller's to tell, by `os::fail`.
 //
 // What a call reads or writes no contract can say; these say which bytes of the buffer it may speak of.
+#![tactic(auto)]
+
 ghost use Rattle.io.specs.Counts.{IsPrefixLen};
 
 use pause::pause;

@@ -1,4 +1,6 @@
 // One step of a recipe, as the reader, the run and the sheet take it: its row of the step table, its three words, and the order of its P and Q.
+#![tactic(auto)]
+
 ghost use Rattle.std.specs.Prelude.{◌≡◌, ◌||◌, [], ◌∷◌, ◌++◌, ◌*◌, ◌+◌, ◌<◌, length};
 ghost use Rattle.recipe.specs.Packed.{head, step_at, put_at, steps_in, bad_words};
 

@@ -3,6 +3,8 @@
 // `start`, then `feed` with each chunk until it is used up, then `finish`: the bytes put out are those that `run_output` of
 // `programs/specs/Output.antt` says of the whole input, however it was cut (`programs/proofs/Chunks.antt`). The caller lends the same buffer
 // and the same words to every call: the bytes of a recipe or a line that is not at its end yet, and the steps of the recipe once it is read.
+#![tactic(auto)]
+
 ghost use Rattle.std.specs.Prelude.{◌≡◌, List, [], ℕ, ◌*◌, ◌≤◌, ◌<◌, length, take};
 ghost use Rattle.recipe.specs.declared.Step.{Step};
 ghost use Rattle.recipe.specs.Text.{short, most_steps, read_text};

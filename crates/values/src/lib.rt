@@ -1,4 +1,6 @@
 // A step's value, and the step rules.
+#![tactic(auto)]
+
 ghost use Rattle.std.specs.Prelude.{◌≡◌, cond, ◌≤◌, ltb};
 
 use recipe::StepNumber;

@@ -3,6 +3,8 @@
 // A line of input is 40 bytes: the function's number in 2 hex digits, the width in bits in 2, and two operands in 16 each, parted by
 // spaces. A line of output is 37: the refusal's number in 2, and two words in 16 each. A malformed line, an unknown function and an
 // unknown width are answered by ff and zeros. A last line that is cut short is left out.
+#![tactic(auto)]
+
 ghost use Rattle.std.specs.Prelude.{◌≡◌, ◌*◌, ◌≤◌, length, take};
 ghost use Rattle.vectors.specs.Line.{response_of, responses};
 
