@@ -33,7 +33,7 @@ impl Class {
 }
 
 // How a number is rounded to a whole one: floor, ceil, trunc, round, nearbyint.
-#[derive(Drop)]
+#[derive(Clone, Copy)]
 pub enum Direction {
     Down,
     Up,

@@ -5,21 +5,21 @@ pub mod bounds;
 mod ranges;
 
 // A range of doubles, both ends included; neither is a NaN.
-#[derive(Drop)]
+#[derive(Clone, Copy)]
 pub struct DoubleRange {
     pub low: f64,
     pub high: f64,
 }
 
 // A range of whole numbers, both ends included.
-#[derive(Drop)]
+#[derive(Clone, Copy)]
 pub struct WholeRange {
     pub low: i64,
     pub high: i64,
 }
 
 // What a step's values lie in.
-#[derive(Drop)]
+#[derive(Clone, Copy)]
 pub enum Range {
     Doubles(DoubleRange),
     Wholes(WholeRange),

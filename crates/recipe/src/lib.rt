@@ -14,22 +14,22 @@ pub const LINE_LENGTH: usize = 39;
 pub const LONGEST_TEXT: usize = MOST_STEPS * LINE_LENGTH;
 
 // A step's place in its recipe, counted from 0.
-#[derive(Drop)]
+#[derive(Clone, Copy)]
 pub struct StepNumber(pub u16);
 
 // An input's place in a frame, counted from 0 apart from the steps: step 5 may be input 1.
-#[derive(Drop)]
+#[derive(Clone, Copy)]
 pub struct InputNumber(pub u16);
 
 // What a value is: a double, or a whole number of 64 bits with its sign.
-#[derive(Drop)]
+#[derive(Clone, Copy)]
 pub enum Kind {
     Double,
     Whole,
 }
 
 // What the step table says of an opcode: where its value comes from, the kinds of its operands, and last the kind of its value.
-#[derive(Drop)]
+#[derive(Clone, Copy)]
 pub enum Row {
     Unknown,
     Input(Kind),
@@ -39,7 +39,7 @@ pub enum Row {
 }
 
 // A line's fields. A step that passed the reader has zeros where its opcode uses nothing, and its operands stand before it.
-#[derive(Drop)]
+#[derive(Clone, Copy)]
 pub struct Step {
     pub opcode: u8,
     pub a: StepNumber,

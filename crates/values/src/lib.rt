@@ -9,14 +9,14 @@ pub mod step;
 mod values;
 
 // A step's value: a double, which is never a NaN, or a whole number.
-#[derive(Drop)]
+#[derive(Clone, Copy)]
 pub enum Value {
     Double(f64),
     Whole(i64),
 }
 
 // What a step comes to: a value, or a refusal's number.
-#[derive(Drop)]
+#[derive(Clone, Copy)]
 pub enum Outcome {
     Done(Value),
     Refused(u64),

@@ -4,7 +4,6 @@ use Prim.Native.Nat.{◌-◌}
 use native.Mathlib.Omega.{arith}
 use mir.Syntax.{w64}
 use mir.Val.{to_z}
-use borrow.Author.Rules.{rules}
 use Rattle.twos_complement.proofs.signed.Goals as goal
 
 pub returns-else-w-lt9223372036854775808 : goal.returns-else-w-lt9223372036854775808

@@ -1,0 +1,6 @@
+-- `smaller` meets its contract. Assumes nothing.
+use borrow.Author.Rules.{rules}
+use Rattle.remainder.proofs.smaller.Goals as goal
+
+pub returns : goal.returns
+returns c = rw (c.rest.ensures, c.rest-2.ensures)
