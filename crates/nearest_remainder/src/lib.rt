@@ -103,7 +103,7 @@ fn cut_division(fraction: u64, m: u64, n: u64, w: u64) -> Cut
 // ---- of magnitudes, patterns without their signs
 
 // The quotient modulo 8 and what is left, in units of 2^scale, of which the divisor has as many as it says.
-#[derive(Drop)]
+#[derive(Clone, Copy)]
 struct Division {
     quotient: u64,
     rest: u64,

@@ -79,9 +79,9 @@ module _ (r : RunAnswer) (z : r.refusal ≡ 0) where
       (ap (λ (at : ℕ). field_of (digits 2 r.kind ++ (digits 16 r.word ++ (10 ∷ []))) at 16 0) (sym (length_digits 2 r.kind))
       ∙ read_written 16 r.word (digits 2 r.kind) _ h)
 
-pub answer-refused : (r : RunAnswer) → (r.refusal ≡ 0 → ⊥) → answer_line r ≡ refusal_line r.refusal r.place
+pub answer_refused : (r : RunAnswer) → (r.refusal ≡ 0 → ⊥) → answer_line r ≡ refusal_line r.refusal r.place
 unfolding answer_line
-answer-refused r h = rw (ne_eqb r.refusal 0 h)
+answer_refused r h = rw (ne_eqb r.refusal 0 h)
 
 module _ (l : List Step) (s : List ℕ) where
   pub frame-long : 256 < length s → frame_line l s ≡ refusal_line 30 0
@@ -110,14 +110,14 @@ module _ (l : List Step) (s : List ℕ) where
 -- ---- one answer per frame
 
 -- Each frame line has its answer, whatever the others came to: lines after others are answered as they would be alone.
-pub answers-join : (l : List Step) (xs ys : List (List ℕ)) → answers l (xs ++ ys) ≡ answers l xs ++ answers l ys
+pub answers_join : (l : List Step) (xs ys : List (List ℕ)) → answers l (xs ++ ys) ≡ answers l xs ++ answers l ys
 unfolding answers
-answers-join l [] ys = refl
-answers-join l (s ∷ xs) ys = ap (λ (x : List ℕ). frame_line l s ++ x) (answers-join l xs ys) ∙ sym (append_assoc (frame_line l s) (answers l xs) (answers l ys))
+answers_join l [] ys = refl
+answers_join l (s ∷ xs) ys = ap (λ (x : List ℕ). frame_line l s ++ x) (answers_join l xs ys) ∙ sym (append_assoc (frame_line l s) (answers l xs) (answers l ys))
 
-pub answers-none : (l : List Step) → answers l [] ≡ []
+pub answers_none : (l : List Step) → answers l [] ≡ []
 unfolding answers
-answers-none l = refl
+answers_none l = refl
 
 pub answers_one : (l : List Step) (s : List ℕ) → answers l (s ∷ []) ≡ frame_line l s
 unfolding answers

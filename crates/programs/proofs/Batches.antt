@@ -20,7 +20,7 @@ use Rattle.semantics.proofs.Lists.{lt_or_ge}
 use Rattle.programs.specs.Output.{answer_line, frame_line, lines_after, answers}
 use Rattle.programs.specs.Stage.{LineEnd, between}
 use Rattle.programs.specs.Batch.{answered, refused, ended_after, answer_line_bytes, answered_in, line_bytes, answers_to, batch_steps, on_text, batch_of}
-use Rattle.programs.proofs.Answers.{refusal-length, answer_refused, frame-long, frame-short, answers-join, answers-none}
+use Rattle.programs.proofs.Answers.{refusal-length, answer_refused, frame-long, frame-short, answers_join, answers_none}
 use Rattle.programs.proofs.EndedLines.{ended_line, First, first_ended, some_ended}
 
 -- ---- an answer's length
@@ -154,7 +154,7 @@ module _ (l : List Step) (s : List ℕ) (room : ℕ) where
     pub joined : answers l (lines_after [] s) ≡ written ++ answers l (lines_after [] (drop read s))
     joined =
         ap (answers l) all.frames
-        ∙ answers-join l (answered_in l room (ended_after [] s)) (lines_after [] (drop (line_bytes (answered_in l room (ended_after [] s))) s))
+        ∙ answers_join l (answered_in l room (ended_after [] s)) (lines_after [] (drop (line_bytes (answered_in l room (ended_after [] s))) s))
         ∙ ap (λ (y : List ℕ). y ++ answers l (lines_after [] (drop (line_bytes (answered_in l room (ended_after [] s))) s))) is_written
         ∙ ap (λ (k : ℕ). written ++ answers l (lines_after [] (drop k s))) is_read
 
@@ -237,7 +237,7 @@ module _ (l : List Step) (s : List ℕ) (from room i put : ℕ) (written : List 
       let c : line_bytes (answered_in l (room - put) (ended_after [] (drop i s))) ≡ 0 = ap line_bytes z ∙ bytes_none in
       let r : line_bytes lines ≡ i - from = omega (arith, g.read) in
       let w : answers l lines ≡ written =
-      g.answered_by ∙ ap (λ (y : List (List ℕ)). written ++ answers l y) z ∙ ap (λ (y : List ℕ). written ++ y) (answers-none l) ∙ append-nil written in
+      g.answered_by ∙ ap (λ (y : List (List ℕ)). written ++ answers l y) z ∙ ap (λ (y : List ℕ). written ++ y) (answers_none l) ∙ append-nil written in
       batch_lines l (drop from s) room h ∙ ap (λ (k : ℕ). answered k (answers l lines)) r ∙ ap (answered (i - from)) w
 
   -- since no line feed is left

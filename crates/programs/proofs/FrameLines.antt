@@ -13,7 +13,7 @@ use Rattle.recipe.specs.Answer.{Holds}
 use Rattle.programs.specs.declared.Lines.{Lines}
 use Rattle.programs.specs.Output.{frame_line, lines_after, answers}
 use Rattle.programs.specs.Stage.{NoFeed, Kept, LineEnd, Paid, Answered, Handled, between}
-use Rattle.programs.proofs.Answers.{answers-join, answers_one}
+use Rattle.programs.proofs.Answers.{answers_join, answers_one}
 use Rattle.programs.proofs.Pieces.{between_more, between_join}
 
 -- ---- lines
@@ -29,7 +29,7 @@ lines_plain (b ∷ s) line rest h =
 lines_ended : (l : List Step) (line rest : List ℕ) → answers l (lines_after line (10 ∷ rest)) ≡ frame_line l line ++ answers l (lines_after [] rest)
 unfolding lines_after
 lines_ended l line rest =
-    answers-join l (line ∷ []) (lines_after [] rest) ∙ ap (λ (x : List ℕ). x ++ answers l (lines_after [] rest)) (answers_one l line)
+    answers_join l (line ∷ []) (lines_after [] rest) ∙ ap (λ (x : List ℕ). x ++ answers l (lines_after [] rest)) (answers_one l line)
 
 -- ---- pieces paid for
 

@@ -21,7 +21,7 @@ use Rattle.programs.specs.declared.End.{End}
 use Rattle.programs.specs.declared.End.TheVariants.{Missing, Empty, Endless}
 use Rattle.programs.specs.Output.{refusal_line, frame_line, looked_at, last_line, lines_after, answers, part_after, on_recipe, output_of}
 use Rattle.programs.specs.Stage.{Reading, heading, running, stopped, owed, NoFeed, Kept, Stands, Handled, Fed, Finished, parts}
-use Rattle.programs.proofs.Answers.{refused-recipe, passed-recipe, answers-none, answers_one}
+use Rattle.programs.proofs.Answers.{refused-recipe, passed-recipe, answers_none, answers_one}
 use Rattle.programs.proofs.FrameLines.{kept_nothing, plain_none}
 
 -- ---- a recipe that was read
@@ -142,7 +142,7 @@ fed_at_done piece s buffer w stopped h e = record { next = stopped; stands = h; 
 
 last_none : (l : List Step) (line : List ℕ) → line ≡ [] → answers l (last_line line) ≡ []
 unfolding last_line
-last_none l line e = rw e (answers-none l)
+last_none l line e = rw e (answers_none l)
 
 last_some : (l : List Step) (line : List ℕ) → 0 < length line → answers l (last_line line) ≡ frame_line l line
 unfolding last_line

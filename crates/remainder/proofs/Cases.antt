@@ -189,15 +189,28 @@ module _ (f : Format) (x y : ℕ) where
       )
 
   -- The code's test, as it is made: t is the first two parts of it, i is infinity's pattern.
-  pub special_tested : (i a b : ℕ) (t : Bool) → i ≡ infinity f → a ≡ unsigned f x → b ≡ unsigned f y
-      → ((i ≤ a) × (t ≡ leb i a)) ⊎ ((a < i) × (t ≡ leb i b))
-      → (t ≡ true → t ≡ is_special f x y) × (t ≡ false → eqb b 0 ≡ is_special f x y)
-  special_tested i a b t ei ea eb came =
-      (λ e. e ∙ sym (ap (λ (s : Bool). s || eqb (unsigned f y) 0) (sym parts ∙ e)), λ e. ap (λ (n : ℕ). eqb n 0) eb ∙ sym (ap (λ (s : Bool). s || eqb (unsigned f y) 0) (sym parts ∙ e)))
+  pub special_true : (i a b : ℕ) (t : Bool) → i ≡ infinity f → a ≡ unsigned f x → b ≡ unsigned f y
+      → ((i ≤ a) × (t ≡ leb i a)) ⊎ ((a < i) × (t ≡ leb i b)) → (i ≤ a) ⊎ ((a < i) × (i ≤ b)) → t ≡ is_special f x y
+  special_true i a b t ei ea eb came met = tested ∙ sym (ap (λ (s : Bool). s || eqb (unsigned f y) 0) parts)
     where
-      merged : ((i ≤ a) × (t ≡ leb i a)) ⊎ ((a < i) × (t ≡ leb i b)) → t ≡ (leb i a || leb i b)
-      merged (inl h) = h.1 ∙ le-leb i a h.0 ∙ sym (ap (λ (s : Bool). s || leb i b) (le-leb i a h.0))
-      merged (inr h) = h.1 ∙ sym (ap (λ (s : Bool). s || leb i b) (lt-leb i a h.0))
+      one : (leb i a || leb i b) ≡ true
+      one = ⊎_elim (λ h. ap (λ (s : Bool). s || leb i b) (le-leb i a h)) (λ h. ap (λ (s : Bool). s || leb i b) (lt-leb i a h.0) ∙ le-leb i b h.1) met
 
-      parts : t ≡ (leb (infinity f) (unsigned f x) || leb (infinity f) (unsigned f y))
-      parts = rw (← ei, ← ea, ← eb) (merged came)
+      tested : t ≡ true
+      tested =
+          ⊎_elim
+          (λ h. h.1 ∙ le-leb i a h.0)
+          (λ h. h.1 ∙ sym (ap (λ (s : Bool). s || leb i b) (lt-leb i a h.0)) ∙ one)
+          came
+
+      parts : (leb (infinity f) (unsigned f x) || leb (infinity f) (unsigned f y)) ≡ true
+      parts = rw (← ei, ← ea, ← eb) one
+
+  pub special_false : (i a b : ℕ) → i ≡ infinity f → a ≡ unsigned f x → b ≡ unsigned f y → a < i → b < i → eqb b 0 ≡ is_special f x y
+  special_false i a b ei ea eb la lb = ap (λ (n : ℕ). eqb n 0) eb ∙ sym (ap (λ (s : Bool). s || eqb (unsigned f y) 0) parts)
+    where
+      none : (leb i a || leb i b) ≡ false
+      none = ap (λ (s : Bool). s || leb i b) (lt-leb i a la) ∙ lt-leb i b lb
+
+      parts : (leb (infinity f) (unsigned f x) || leb (infinity f) (unsigned f y)) ≡ false
+      parts = rw (← ei, ← ea, ← eb) none

@@ -51,9 +51,9 @@ abbrev pub Further : ℕ → Type 0
 Further n =
     ((((((Unit {0} × (n ≡ 21 → ⊥)) × (n ≡ 32 → ⊥)) × (n ≡ 33 → ⊥)) × (n ≡ 34 → ⊥)) × (n ≡ 35 → ⊥)) × (n ≡ 36 → ⊥)) × (n ≡ 37 → ⊥)
 
-pub not-further : (f : Format) (function x y : ℕ) (n : ℤ) → Further function → nearest_at f function x y ≡ further_at f function x y n
+pub not_further : (f : Format) (function x y : ℕ) (n : ℤ) → Further function → nearest_at f function x y ≡ further_at f function x y n
 unfolding further_at
-not-further f k x y n h =
+not_further f k x y n h =
     simp (
       ne_eqb k 21 h.0.0.0.0.0.0.1,
       ne_eqb k 32 h.0.0.0.0.0.1,
@@ -76,9 +76,9 @@ pub exported : (function x y : ℕ) (n : ℤ) → function ≡ 27 → words (con
 unfolding single_at
 exported function x y n e = rw e
 
-pub not-exported : (function x y : ℕ) (n : ℤ) → (function ≡ 27 → ⊥) → answer_at binary32 function x y n ≡ single_at function x y n
+pub not_exported : (function x y : ℕ) (n : ℤ) → (function ≡ 27 → ⊥) → answer_at binary32 function x y n ≡ single_at function x y n
 unfolding single_at
-not-exported function x y n h = rw (ne_eqb function 27 h)
+not_exported function x y n h = rw (ne_eqb function 27 h)
 
 pub half : (x : ℕ) {function k : ℕ} → function ≡ k → half_at k x ≡ half_at function x
 half x e = sym (ap (λ (k : ℕ). half_at k x) e)
@@ -86,9 +86,9 @@ half x e = sym (ap (λ (k : ℕ). half_at k x) e)
 abbrev pub NoHalf : ℕ → Type 0
 NoHalf n = (((((Unit {0} × (n ≡ 16 → ⊥)) × (n ≡ 17 → ⊥)) × (n ≡ 18 → ⊥)) × (n ≡ 19 → ⊥)) × (n ≡ 20 → ⊥)) × (n ≡ 26 → ⊥)
 
-pub no-half : (function x : ℕ) → NoHalf function → unknown_answer ≡ half_at function x
+pub no_half : (function x : ℕ) → NoHalf function → unknown_answer ≡ half_at function x
 unfolding half_at
-no-half k x h =
+no_half k x h =
     simp (
       ne_eqb k 16 h.0.0.0.0.0.1,
       ne_eqb k 17 h.0.0.0.0.1,

@@ -5,7 +5,6 @@ use native.Mathlib.Omega.{arith}
 use lib.Arith.{lt_of_le-ne}
 use Rattle.float_format.proofs.Shifting.{shifted_most}
 use Rattle.conversion.proofs.Narrowed.{export_infinite, export_nan, export_in, export_out, rounds_normal, rounds_small, rounds_tiny, past_end}
-use borrow.Author.Rules.{rules}
 use Rattle.conversion.proofs.export.Goals.{After-shifted-small}
 use Rattle.conversion.proofs.export.Goals as goal
 

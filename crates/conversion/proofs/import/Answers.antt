@@ -3,7 +3,6 @@ use mathlib.Core.Path.{refl, ap, ◌∙◌, sym}
 use Prim.Native.Nat.{ℕ, ◌+◌, ◌*◌, ◌%◌, ◌-◌}
 use lib.Arith.{lt_of_le-ne}
 use native.Mathlib.Omega.{arith}
-use borrow.Author.Rules.{rules}
 use Rattle.conversion.proofs.Steps.{table_lt, import_subnormal, import_normal, import_infinite, import_nan}
 use Rattle.conversion.proofs.import.Goals as goal
 

@@ -3,7 +3,6 @@ use Prim.Native.Nat.{◌^◌, ◌≤◌, ◌<◌}
 use borrow.Author.Tests.{lt-ltb, le-ltb}
 use Rattle.float_format.specs.Format.{unsigned}
 use Rattle.float_format.specs.Width.{format}
-use borrow.Author.Rules.{rules}
 use Rattle.remainder.proofs.are_units.Goals as goal
 
 pub returns-then-rest-unit : goal.returns-then-rest-unit

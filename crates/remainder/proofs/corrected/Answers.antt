@@ -1,7 +1,6 @@
 -- `corrected` meets its contract: the two arms are the two cases of the certificate. Assumes nothing.
 use native.Mathlib.Omega.{arith}
 use Rattle.remainder.proofs.Estimate.{Near, right, one_less}
-use borrow.Author.Rules.{rules}
 use Rattle.remainder.proofs.corrected.Goals.{Start}
 use Rattle.remainder.proofs.corrected.Goals as goal
 

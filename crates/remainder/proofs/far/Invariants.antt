@@ -1,10 +1,7 @@
 -- `far` meets its contract. The loop's invariant: r fits a significand, and with the places that are left it has the whole remainder. The
 -- measure is what is left. Assumes nothing.
-use mathlib.Core.Path.{◌≡◌, refl, ap, ◌∙◌}
-use Prim.Native.Nat.{ℕ, ◌*◌, ◌/◌, ◌%◌, ◌^◌, ◌<◌}
-use native.Mathlib.Omega.{arith}
-use Rattle.remainder.specs.Shape.{inverse_of}
-use Rattle.remainder.proofs.Turn.{turn_on, turn_at, turned_lt}
+use mathlib.Core.Path.{◌≡◌}
+use Prim.Native.Nat.{◌*◌, ◌%◌, ◌^◌, ◌<◌}
 use Rattle.remainder.proofs.far.Given as goal
 
 abbrev pub invariant-loop-left : goal.invariant-loop-left

@@ -7,7 +7,6 @@ use Rattle.float_format.specs.Width.{format}
 use Rattle.float_format.proofs.Sizes.{sizes}
 use Rattle.remainder.specs.Shape.{scale_of}
 use Rattle.remainder.proofs.Split.{Split, split, scale_mono, scale_lt, left_scaled}
-use borrow.Author.Rules.{rules}
 use Rattle.remainder.proofs.remainder_at_scale.Goals.{After-scale-2, After-significand-2, Start}
 use Rattle.remainder.proofs.remainder_at_scale.Goals as goal
 

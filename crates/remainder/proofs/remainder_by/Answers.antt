@@ -1,9 +1,7 @@
 -- `remainder_by` meets its contract. Assumes nothing.
 use native.Mathlib.Omega.{arith}
-use borrow.Author.Tests.{leb-true}
 use Rattle.float_format.proofs.Lead.{leading_shift_lem}
 use Rattle.remainder.proofs.Split.{Brought, turns, remainder_back}
-use borrow.Author.Rules.{rules}
 use Rattle.remainder.proofs.remainder_by.Goals.{After-leading_shift-k}
 use Rattle.remainder.proofs.remainder_by.Goals as goal
 
@@ -22,8 +20,8 @@ turned-requires c =
       least = p.0;
       most = p.1;
       few = p.2;
-      near = omega (arith, c.else-n-le11.true);
-      from = omega (arith, leb-true c.power.result c.args.w c.if-w-power.true, c.power.ensures);
+      near = omega arith;
+      from = omega (arith, c.power.ensures);
       below = p.5;
     }
 

@@ -4,7 +4,6 @@ use Prim.Native.Nat.{ℕ, ◌-◌, ◌*◌, ◌^◌}
 use native.Mathlib.Omega.{arith}
 use Rattle.remainder.specs.Shape.{scale_of}
 use Rattle.remainder.proofs.Split.{Split, split}
-use borrow.Author.Rules.{rules}
 use Rattle.remainder.proofs.significand.Goals.{After-power, Start}
 use Rattle.remainder.proofs.significand.Goals as goal
 

@@ -1,5 +1,4 @@
 -- `smaller` meets its contract. Assumes nothing.
-use borrow.Author.Rules.{rules}
 use Rattle.remainder.proofs.smaller.Goals as goal
 
 pub returns : goal.returns

@@ -3,12 +3,10 @@ use mathlib.Core.Path.{refl, ◌∙◌}
 use mathlib.Core.Logic.{inl, inr, ⊎_elim}
 use Prim.Native.Nat.{◌≤◌, ◌<◌}
 use native.Mathlib.Omega.{arith}
-use borrow.Author.Tests.{eqb-true, eqb-false}
 use Rattle.float_format.specs.Format.{Format, infinity, unsigned}
 use Rattle.float_format.specs.Width.{format}
 use Rattle.float_format.proofs.Integral.{default_nan_lt}
 use Rattle.remainder.proofs.Cases.{answered, nan_first, nan_second, no_remainder_lem, infinite_divisor, special_last}
-use borrow.Author.Rules.{rules}
 use Rattle.remainder.proofs.special_answer.Goals.{Else-a-infinity, Else-b-infinity, Start}
 use Rattle.remainder.proofs.special_answer.Goals as goal
 
@@ -45,10 +43,7 @@ returns-then-a-infinity-2 c =
     let i = c.infinity_of-infinity.ensures in
     answered (at (goal.at.returns-then-a-infinity-2 c).Start) s.args.x s.args.y _
     (no_remainder_lem (at (goal.at.returns-then-a-infinity-2 c).Start) s.args.x s.args.y (no-nan-x (goal.at.returns-then-a-infinity-2 c).Else-a-infinity) (no-nan-y (goal.at.returns-then-a-infinity-2 c).Else-b-infinity)
-    (⊎_elim
-    (λ w. inl (omega (arith, w.true, c.rest-a.ensures, i)))
-    (λ w. inr (omega (arith, eqb-true c.rest-b.result 0 w.1.true, c.rest-b.ensures)))
-    c.then-a-infinity-2.branch))
+    (⊎_elim (λ h. inl (omega (arith, h, c.rest-a.ensures, i))) (λ h. inr (omega (arith, h.1, c.rest-b.ensures))) c.then-a-infinity-2.either))
     s.requires.4
     (omega (arith, s.requires.4, default_nan_lt (at (goal.at.returns-then-a-infinity-2 c).Start) s.requires.0.valid))
 
@@ -57,9 +52,9 @@ returns c =
     let s = c in
     let y = c.rest-b in
     let hy : unsigned (at (goal.at.returns c).Start) s.args.y ≤ infinity (at (goal.at.returns c).Start) = no-nan-y (goal.at.returns c).Else-b-infinity in
-    let hx : unsigned (at (goal.at.returns c).Start) s.args.x < infinity (at (goal.at.returns c).Start) = omega (arith, c.then-a-infinity-2.false, no-nan-x (goal.at.returns c).Else-a-infinity, c.rest-a.ensures, c.infinity_of-infinity.ensures) in
+    let hx : unsigned (at (goal.at.returns c).Start) s.args.x < infinity (at (goal.at.returns c).Start) = omega (arith, no-nan-x (goal.at.returns c).Else-a-infinity, c.rest-a.ensures, c.infinity_of-infinity.ensures) in
     answered (at (goal.at.returns c).Start) s.args.x s.args.y _
     (infinite_divisor (at (goal.at.returns c).Start) s.args.x s.args.y hx
-    (special_last (at (goal.at.returns c).Start) s.args.x s.args.y s.requires.3 hx hy (λ e. eqb-false y.result 0 c.if-b-eq0.false (y.ensures ∙ e))))
+    (special_last (at (goal.at.returns c).Start) s.args.x s.args.y s.requires.3 hx hy (λ e. c.if-b-eq0.false (y.ensures ∙ e))))
     refl
     s.requires.1

@@ -2,7 +2,6 @@
 use mathlib.Core.Path.{refl}
 use native.Mathlib.Omega.{arith}
 use Rattle.remainder.proofs.Turn.{top_le}
-use borrow.Author.Rules.{rules}
 use Rattle.remainder.proofs.top_of.Goals as goal
 
 pub overflow_add-result : goal.overflow_add-result

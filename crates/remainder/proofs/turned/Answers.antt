@@ -5,7 +5,6 @@ use native.Mathlib.Nat.{div-le_self}
 use native.Mathlib.Omega.{arith}
 use Rattle.remainder.proofs.Estimate.{Near}
 use Rattle.remainder.proofs.Turn.{whole, high_lt, divided}
-use borrow.Author.Rules.{rules}
 use Rattle.remainder.proofs.turned.Goals as goal
 
 pub overflow_cast-high : goal.overflow_cast-high

@@ -4,7 +4,6 @@ use Prim.Native.Nat.{ℕ, ◌*◌, ◌%◌, ◌^◌}
 use native.Mathlib.Omega.{arith}
 use Rattle.remainder.proofs.Estimate.{Near}
 use Rattle.remainder.proofs.Turn.{whole, product_lt, multiplied}
-use borrow.Author.Rules.{rules}
 use Rattle.remainder.proofs.turned_by.Goals as goal
 
 pub overflow_mul-high : goal.overflow_mul-high

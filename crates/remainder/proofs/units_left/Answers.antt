@@ -7,7 +7,6 @@ use Rattle.float_format.specs.Width.{format}
 use Rattle.float_format.proofs.Sizes.{sizes}
 use Rattle.remainder.specs.Remainder.{fmod}
 use Rattle.remainder.proofs.Cases.{units_left}
-use borrow.Author.Rules.{rules}
 use Rattle.remainder.proofs.units_left.Goals.{After-signed_zero, Start}
 use Rattle.remainder.proofs.units_left.Goals as goal
 

@@ -9,7 +9,6 @@ use Rattle.float_format.proofs.Sizes.{sizes, zero_le}
 use Rattle.remainder.specs.Shape.{scale_of}
 use Rattle.remainder.proofs.Split.{scale_lt}
 use Rattle.remainder.proofs.Cases.{left_is}
-use borrow.Author.Rules.{rules}
 use Rattle.remainder.proofs.with_remainder.Goals.{After-encoded, After-scale-j, Start}
 use Rattle.remainder.proofs.with_remainder.Goals as goal
 
@@ -40,6 +39,6 @@ returns c =
     let s = c in (
       ap (λ (n : ℕ). n + c.encoded.result) c.signed_zero.ensures
           ∙ left_is (at (goal.at.returns c).Start) s.args.x s.args.y c.encoded.result s.requires.0 s.requires.1
-          (c.encoded.ensures.0 ∙ ap (λ (n : ℕ). encode s.args.fraction (s.args.false * 2 ^ n)) (scale-y (goal.at.returns c).After-scale-j)),
+          (c.encoded.ensures.0 ∙ ap (λ (n : ℕ). encode s.args.fraction (s.args.left * 2 ^ n)) (scale-y (goal.at.returns c).After-scale-j)),
       sum_lt (goal.at.returns c).After-encoded,
     )

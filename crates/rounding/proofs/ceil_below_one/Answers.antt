@@ -3,7 +3,6 @@ use mathlib.Core.Path.{◌∙◌}
 use Rattle.float_format.specs.Format.{Format}
 use Rattle.float_format.specs.Width.{format}
 use Rattle.rounding.proofs.Directions.{ceil_negative, ceil_zero, ceil_one}
-use borrow.Author.Rules.{rules}
 use Rattle.rounding.proofs.ceil_below_one.Goals.{Start}
 use Rattle.rounding.proofs.ceil_below_one.Goals as goal
 

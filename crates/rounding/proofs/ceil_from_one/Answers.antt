@@ -1,12 +1,10 @@
 -- `ceil_from_one` meets its contract: the sum that is cut is `ceil_away` or `ceil_stays`, by the arm that made it. Assumes nothing.
 use mathlib.Core.Path.{◌∙◌}
 use native.Mathlib.Omega.{arith}
-use mathlib.Core.Logic.{⊎_elim}
 use Rattle.float_format.specs.Format.{Format}
 use Rattle.float_format.specs.declared.Direction.TheVariants.{Up}
 use Rattle.float_format.specs.Width.{format}
 use Rattle.rounding.proofs.Directions.{Sum, unit_pos, ceil_away, ceil_stays}
-use borrow.Author.Rules.{rules}
 use Rattle.rounding.proofs.ceil_from_one.Goals.{Joined-x-sign_bit, Start, else-x-sign_bit, then-x-sign_bit}
 use Rattle.rounding.proofs.ceil_from_one.Goals as goal
 

@@ -1,6 +1,5 @@
 -- `cut` meets its contract. Assumes nothing.
 use native.Mathlib.Nat.{mod-le}
-use borrow.Author.Rules.{rules}
 use Rattle.rounding.proofs.cut.Goals as goal
 
 pub overflow_sub-result : goal.overflow_sub-result

@@ -6,7 +6,6 @@ use Rattle.float_format.specs.Format.{Format}
 use Rattle.float_format.specs.Width.{format}
 use Rattle.rounding.proofs.Directions.{floor_minus_one, floor_zero}
 use Rattle.float_format.proofs.Sizes.{sizes}
-use borrow.Author.Rules.{rules}
 use Rattle.rounding.proofs.floor_below_one.Goals.{Start}
 use Rattle.rounding.proofs.floor_below_one.Goals as goal
 

@@ -2,14 +2,12 @@
 use mathlib.Core.Path.{◌≡◌, ◌∙◌}
 use Prim.Native.Nat.{◌+◌, ◌*◌, ◌^◌}
 use native.Mathlib.Omega.{arith}
-use mathlib.Core.Logic.{⊎_elim}
 use Rattle.float_format.specs.Format.{Format, sign_bit}
 use Rattle.float_format.specs.declared.Direction.TheVariants.{Down}
 use Rattle.float_format.specs.Width.{format}
 use Rattle.rounding.proofs.Directions.{Sum, unit_pos, floor_away, floor_stays}
 use Rattle.float_format.proofs.Sizes.{sizes}
 use Rattle.float_format.specs.Number.{bias}
-use borrow.Author.Rules.{rules}
 use Rattle.rounding.proofs.floor_from_one.Goals.{After-one, Joined-x-least, Start, else-x-least, then-x-least}
 use Rattle.rounding.proofs.floor_from_one.Goals as goal
 

@@ -5,7 +5,6 @@ use Rattle.float_format.specs.Format.{Format}
 use Rattle.float_format.specs.Width.{format}
 use Rattle.float_format.proofs.Sizes.{Sizes, sizes}
 use Rattle.rounding.proofs.Masks.{mask_shifted, mask_none}
-use borrow.Author.Rules.{rules}
 use Rattle.rounding.proofs.fraction_mask.Goals.{Start}
 use Rattle.rounding.proofs.fraction_mask.Goals as goal
 

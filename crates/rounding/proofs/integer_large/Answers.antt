@@ -10,7 +10,6 @@ use Rattle.float_format.specs.Rounding.{lround_refusal, lround_value}
 use Rattle.float_format.specs.Width.{format}
 use Rattle.float_format.proofs.Sizes.{sizes, field_le}
 use Rattle.rounding.proofs.Count.{Answers, nan_answer, infinite_answer, limit_answer, other_answer, limit_lt}
-use borrow.Author.Rules.{rules}
 use Rattle.rounding.proofs.integer_large.Goals.{After-power-2, After-sign_bit, Start}
 use Rattle.rounding.proofs.integer_large.Goals as goal
 

@@ -43,7 +43,7 @@ returns-then-e-bias_of c =
     let w : Finite (at (goal.at.returns-then-e-bias_of c).Start) c.args.x c.field-e.result = finite (goal.at.returns-then-e-bias_of c).Then-e-bias_of in
     let a : Answers (at (goal.at.returns-then-e-bias_of c).Start) c.args.x 0 _ =
     below_answer (at (goal.at.returns-then-e-bias_of c).Start) c.args.x c.whole_below-n.result c.whole_below-n.ensures.0
-    (rest_below (at (goal.at.returns-then-e-bias_of c).Start) c.args.x c.field-e.result _ w.field-e w.finite) c.whole_below-n.ensures.1 in
+    (rest_below (at (goal.at.returns-then-e-bias_of c).Start) c.args.x c.field-e.result _ w.field w.finite) c.whole_below-n.ensures.1 in
     (a.refusal, e ∙ c.with_sign.ensures ∙ ap (λ (n : ℕ). with_sign (leb n c.args.x) c.whole_below-n.result) c.sign_bit.ensures ∙ a.value)
 
 pub integer_large-requires : goal.integer_large-requires

@@ -7,7 +7,6 @@ use Rattle.float_format.specs.Width.{format}
 use Rattle.float_format.proofs.Sizes.{zero_le, sizes}
 use Rattle.rounding.proofs.Directions.{nearbyint_one, nearbyint_zero}
 use native.Mathlib.Nat.{mod-le}
-use borrow.Author.Rules.{rules}
 use Rattle.rounding.proofs.nearbyint_below_one.Goals.{After-power, Start}
 use Rattle.rounding.proofs.nearbyint_below_one.Goals as goal
 

@@ -5,7 +5,6 @@ use Rattle.float_format.specs.Format.{Format}
 use Rattle.float_format.specs.declared.Direction.TheVariants.{HalfEven}
 use Rattle.float_format.specs.Width.{format}
 use Rattle.rounding.proofs.Directions.{Sum, unit_pos, nearbyint_sum}
-use borrow.Author.Rules.{rules}
 use Rattle.rounding.proofs.nearbyint_from_one.Goals.{After-unit_at-unit, Start}
 use Rattle.rounding.proofs.nearbyint_from_one.Goals as goal
 

@@ -1,6 +1,5 @@
 -- `round_finite` meets its contract: what is cut, by the arm that gave it. Assumes nothing.
 use mathlib.Core.Path.{ap}
-use mathlib.Core.Logic.{⊎_elim}
 use Prim.Native.Nat.{ℕ, ◌-◌, ◌%◌}
 use native.Mathlib.Omega.{arith}
 use lib.Pow.{pow_mono}
@@ -10,7 +9,6 @@ use Rattle.float_format.proofs.Sizes.{Sizes, sizes}
 use Rattle.float_format.specs.declared.Direction.TheVariants.{HalfAway}
 use Rattle.rounding.proofs.Directions.{answered}
 use Rattle.rounding.proofs.Masks.{sum_fits, low_is, high_is}
-use borrow.Author.Rules.{rules}
 use Rattle.rounding.proofs.round_finite.Goals.{Start, else-e-bias_of, then-e-bias_of}
 use Rattle.rounding.proofs.round_finite.Goals as goal
 
@@ -35,4 +33,4 @@ returns c =
     let s = c in
     let m = c.fraction_mask-mask in
     answered (at (goal.at.returns c).Start) HalfAway s.args.x _ s.requires.word s.requires.pattern
-    (elim c.if-e-bias_of.branch [ then-e-bias_of w ↦ rw w.1 (low_is (at (goal.at.returns c).Start) s.args.x s.args.e m.result 64 s.requires m.ensures s.requires.word.narrow _ (ap (λ (n : ℕ). n - 1) c.sign_bit-all.ensures) (rw c.bias_of.ensures at w.if-e-bias_of.true)) | else-e-bias_of w ↦ rw w.1 (high_is (at (goal.at.returns c).Start) s.args.x s.args.e m.result 64 s.requires m.ensures s.requires.word.narrow _ (ap (λ (n : ℕ). m.result % n) c.power.ensures) (rw c.bias_of.ensures at w.if-e-bias_of.false)) ])
+    (elim c.if-e-bias_of.branch [ then-e-bias_of w ↦ rw w.below-is (low_is (at (goal.at.returns c).Start) s.args.x s.args.e m.result 64 s.requires m.ensures s.requires.word.narrow _ (ap (λ (n : ℕ). n - 1) c.sign_bit-all.ensures) (rw c.bias_of.ensures at w.if-e-bias_of.true)) | else-e-bias_of w ↦ rw w.below-is (high_is (at (goal.at.returns c).Start) s.args.x s.args.e m.result 64 s.requires m.ensures s.requires.word.narrow _ (ap (λ (n : ℕ). m.result % n) c.power.ensures) (rw c.bias_of.ensures at w.if-e-bias_of.false)) ])

@@ -5,7 +5,6 @@ use native.Mathlib.Omega.{arith}
 use Rattle.float_format.specs.Format.{Format, top_field, exponent_field}
 use Rattle.float_format.specs.Width.{format, Finite}
 use Rattle.rounding.proofs.Directions.{answered, not_finite_is}
-use borrow.Author.Rules.{rules}
 use Rattle.rounding.proofs.rounded.Goals.{Else-e-top_field, Start, Then-e-top_field}
 use Rattle.rounding.proofs.rounded.Goals as goal
 

@@ -5,7 +5,6 @@ use Rattle.float_format.specs.Format.{Format}
 use Rattle.float_format.specs.Width.{format}
 use Rattle.float_format.specs.Number.{bias}
 use Rattle.rounding.proofs.Directions.{trunc_zero}
-use borrow.Author.Rules.{rules}
 use Rattle.rounding.proofs.trunc_below_one.Goals.{Start}
 use Rattle.rounding.proofs.trunc_below_one.Goals as goal
 

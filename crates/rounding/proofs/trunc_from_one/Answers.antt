@@ -3,7 +3,6 @@ use mathlib.Core.Path.{◌∙◌}
 use Rattle.float_format.specs.Format.{Format}
 use Rattle.float_format.specs.Width.{format}
 use Rattle.rounding.proofs.Directions.{unit_pos, trunc_sum}
-use borrow.Author.Rules.{rules}
 use Rattle.rounding.proofs.trunc_from_one.Goals.{Start}
 use Rattle.rounding.proofs.trunc_from_one.Goals as goal
 

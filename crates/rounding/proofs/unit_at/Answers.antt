@@ -3,7 +3,6 @@ use native.Mathlib.Omega.{arith}
 use borrow.Author.Tests.{lt-ltb, le-ltb}
 use Rattle.float_format.specs.Width.{format}
 use Rattle.float_format.proofs.Sizes.{sizes}
-use borrow.Author.Rules.{rules}
 use Rattle.rounding.proofs.unit_at.Goals as goal
 
 pub overflow_add-whole : goal.overflow_add-whole

@@ -2,14 +2,12 @@
 use mathlib.Core.Path.{refl, ap, ◌∙◌}
 use Prim.Native.Nat.{ℕ, ◌+◌, ◌-◌, ◌/◌, ◌%◌, ◌^◌}
 use native.Mathlib.Omega.{arith}
-use mathlib.Core.Logic.{⊎_elim}
 use Rattle.float_format.specs.Format.{Format}
 use native.Mathlib.Nat.{mod-lt, zero-div}
 use lib.Pow.{pow_pos, pow_mono}
 use Rattle.float_format.specs.Width.{format}
 use Rattle.float_format.proofs.Sizes.{sizes}
 use Rattle.rounding.proofs.Count.{Twice, half_of, half_lt, twice_low, twice_high}
-use borrow.Author.Rules.{rules}
 use Rattle.rounding.proofs.whole_below.Goals.{Joined-e-bias, Start, else-e-bias, then-e-bias}
 use Rattle.rounding.proofs.whole_below.Goals as goal
 
@@ -19,12 +17,15 @@ at s = format s.args.fraction s.args.exponent
 
 -- where the arms meet
 twice : (c : Joined-e-bias)
-    → Twice (at (goal.at.Joined-e-bias c).Start) c.args.x (c.if-e-bias.auto / 2 ^ ((c.bias_of-bias.result + 62 - c.args.e) % 64))
+    → Twice (at (goal.at.Joined-e-bias c).Start) c.args.x (c.if-e-bias.kept / 2 ^ ((c.bias_of-bias.result + 62 - c.args.e) % 64))
 twice c =
-    elim c.if-e-bias.branch [ then-e-bias w ↦ twice_low (at (goal.at.Joined-e-bias c).Start) c.args.x c.args.e c.requires.0 _
-    (ap (λ (n : ℕ). n / 2 ^ ((c.bias_of-bias.result + 62 - c.args.e) % 64)) w.auto-is ∙ zero-div _) (rw c.bias_of-bias.ensures at w.if-e-bias.true) | else-e-bias w ↦ twice_high (at (goal.at.Joined-e-bias c).Start) c.args.x c.args.e c.requires.0
-    _ _ (ap (λ (n : ℕ). n + c.args.x % n) c.power-hidden.ensures) (rw c.bias_of-bias.ensures at w.if-e-bias.false) c.requires.1
-    (rw (w.auto-is, c.bias_of-bias.ensures) refl) ]
+    elim c.if-e-bias.branch [
+      | then-e-bias w ↦ twice_low (at (goal.at.Joined-e-bias c).Start) c.args.x c.args.e c.requires.0 _
+          (ap (λ (n : ℕ). n / 2 ^ ((c.bias_of-bias.result + 62 - c.args.e) % 64)) w.kept-is ∙ zero-div _) (rw c.bias_of-bias.ensures at w.if-e-bias.true)
+      | else-e-bias w ↦ twice_high (at (goal.at.Joined-e-bias c).Start) c.args.x c.args.e c.requires.0
+          _ _ (ap (λ (n : ℕ). n + c.args.x % n) c.power-hidden.ensures) (rw c.bias_of-bias.ensures at w.if-e-bias.false) c.requires.1
+          (rw (w.kept-is, c.bias_of-bias.ensures) refl)
+    ]
 
 pub nonzero_rem-significand : goal.nonzero_rem-significand
 nonzero_rem-significand c = omega (arith, c.power-hidden.ensures, pow_pos c.args.fraction)
@@ -47,8 +48,7 @@ pub overflow_add-result : goal.overflow_add-result
 overflow_add-result c = omega (arith, (twice (goal.at.overflow_add-result c).Joined-e-bias).most)
 
 pub returns : goal.returns
-returns c =
-    (
+returns c = (
   half_of (at (goal.at.returns c).Start) c.args.x _ (twice (goal.at.returns c).Joined-e-bias),
   half_lt (at (goal.at.returns c).Start) c.args.x _ (twice (goal.at.returns c).Joined-e-bias),
 )

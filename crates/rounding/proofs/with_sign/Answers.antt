@@ -6,7 +6,6 @@ use mir.ValLaws.{to_z-of_z, to_z_pos}
 use lib.IntN.{pos, neg_ℤ}
 use Rattle.float_format.specs.Rounding.{with_sign}
 use Rattle.twos_complement.proofs.Minus.{minus_is, minus_fits}
-use borrow.Author.Rules.{rules}
 use Rattle.rounding.proofs.with_sign.Goals as goal
 
 pub overflow_sub-minus : goal.overflow_sub-minus

@@ -1,5 +1,5 @@
 -- `frexp` meets its contract: a normal number keeps its sign and its fraction, and its field becomes that of one half. Assumes nothing.
-use Rattle.std.proofs.Common.{◌≡◌, ℕ, ◌+◌, ◌-◌, ◌*◌, ◌/◌, ◌%◌, ◌^◌, ◌<◌, ◌≤◌, sym, refl, ap, ◌∙◌, div-lt_iff_lt-mul, le_antisymm, arith, pow_pos, w64, to_z, of_z, rules}
+use Rattle.std.proofs.Common.{◌≡◌, ℕ, ◌+◌, ◌-◌, ◌*◌, ◌/◌, ◌%◌, ◌^◌, ◌<◌, ◌≤◌, refl, ap, ◌∙◌, div-lt_iff_lt-mul, le_antisymm, arith, pow_pos, w64, to_z, of_z, rules}
 use Rattle.float_format.specs.Format.{Format, sign_bit, top_field, infinity, exponent_field, unsigned}
 use Rattle.float_format.specs.Width.{format}
 use Rattle.float_format.proofs.Sizes.{Sizes, sizes, field_le, field_from, fields_apart}

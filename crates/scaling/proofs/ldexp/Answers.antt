@@ -1,13 +1,12 @@
 -- `ldexp` meets its contract: a zero and what is not finite go by themselves, every other number has a place. Assumes nothing.
-use Rattle.std.proofs.Common.{◌≡◌, ◌<◌, sym, ◌∙◌, ⊎_elim, arith, w64, to_z, of_z, rules, eqb-true}
-use borrow.Author.Tests.{eqb-false}
+use Rattle.std.proofs.Common.{◌≡◌, ◌<◌, sym, ◌∙◌, arith, w64, to_z, of_z, rules}
 use Rattle.float_format.specs.Format.{Format, unsigned}
 use Rattle.float_format.specs.Width.{format}
 use Rattle.float_format.proofs.Sizes.{from_infinity}
 use Rattle.scaling.proofs.Significands.{some_rest}
 use Rattle.scaling.proofs.Classes.{ldexp_not_finite}
 use Rattle.scaling.proofs.Places.{zero_answer}
-use Rattle.scaling.proofs.ldexp.Goals.{Joined-else-e-eq0, Start}
+use Rattle.scaling.proofs.ldexp.Goals.{Joined-else-e-eq0, Start, else-e-eq0-via-then-e-eq0+else-rest-eq0, else-e-eq0-via-else-e-eq0}
 use Rattle.scaling.proofs.ldexp.Goals as goal
 
 -- the format
@@ -22,13 +21,15 @@ read s = search rules
 some : (c : Joined-else-e-eq0) → 0 < unsigned (at (goal.at.Joined-else-e-eq0 c).Start) c.args.x
 some c =
     let s = c in
-    ⊎_elim (λ w. omega (arith, w.1.ensures, eqb-false w.1.result 0 w.2.false))
-    (λ w. some_rest (at (goal.at.Joined-else-e-eq0 c).Start) s.args.x c.field-e.result c.field-e.ensures.0 (omega (arith, w.false))) c.else-e-eq0.branch
+    elim c.else-e-eq0.branch [
+      | else-e-eq0-via-then-e-eq0+else-rest-eq0 w ↦ omega (arith, w.rest.ensures, w.if-rest-eq0.false)
+      | else-e-eq0-via-else-e-eq0 w ↦ some_rest (at (goal.at.Joined-else-e-eq0 c).Start) s.args.x c.field-e.result c.field-e.ensures.0 (omega (arith, w.if-e-eq0.false))
+    ]
 
 pub returns-then-rest-eq0 : goal.returns-then-rest-eq0
 returns-then-rest-eq0 c =
     let s = c in
-    let r = zero_answer (at (goal.at.returns-then-rest-eq0 c).Start) s.args.x s.args.n s.requires.0.valid s.requires.1 (sym c.rest.ensures ∙ eqb-true c.rest.result 0 c.if-rest-eq0.true) in
+    let r = zero_answer (at (goal.at.returns-then-rest-eq0 c).Start) s.args.x s.args.n s.requires.0.valid s.requires.1 (sym c.rest.ensures ∙ c.if-rest-eq0.true) in
     (r.0, r.1, s.requires.1)
 
 pub returns-then-e-top_field : goal.returns-then-e-top_field

@@ -15,7 +15,7 @@ abbrev at : Start → Format
 at s = format s.args.fraction s.args.exponent
 
 fraction-lt : (s : Start) → s.args.fraction < 62
-fraction-lt s = (sizes (at s) s.requires.0.word).fraction-lt
+fraction-lt s = (sizes (at s) s.requires.0.word).fraction_lt
 
 weight : (s : Start) → 2 ^ s.args.fraction < 2 ^ 62
 weight s = pow-lt (fraction-lt s)
@@ -47,7 +47,7 @@ returns-then-e-gt0 c =
     let s = c in
     normal_position (at (goal.at.returns-then-e-gt0 c).Start) s.args.x c.word-w.result s.args.n (held (goal.at.returns-then-e-gt0 c).After-word-w) s.requires.0.word
     s.args.e c.power-unit.result c.wrapping_add_u64.result s.requires.0.field c.if-e-gt0.true s.requires.0.finite
-    c.power-unit.ensures c.wrapping_add_u64.ensures (omega arith)
+    c.power-unit.ensures c.wrapping_add_u64.ensures.value (omega arith)
 
 pub leading_shift-k-requires : goal.leading_shift-k-requires
 leading_shift-k-requires c =
@@ -65,4 +65,4 @@ returns c =
     subnormal_position (at (goal.at.returns c).Start) s.args.x c.word-w.result s.args.n (held (goal.at.returns c).After-word-w) s.requires.0.word
     a.result k.result c.power.result c.wrapping_add_u64-2.result c.wrapping_sub_u64.result a.ensures
     (omega (arith, a.ensures, s.requires.1)) (omega (arith, a.ensures, low (goal.at.returns c).Else-e-gt0)) k.ensures.0 k.ensures.3
-    c.power.ensures c.wrapping_add_u64-2.ensures c.wrapping_sub_u64.ensures (omega arith)
+    c.power.ensures c.wrapping_add_u64-2.ensures.value c.wrapping_sub_u64.ensures.value (omega arith)

@@ -1,11 +1,11 @@
 -- `placed` meets its contract, by where the exponent field comes to stand. Assumes nothing.
-use Rattle.std.proofs.Common.{◌≡◌, ◌+◌, ◌-◌, ◌*◌, ◌^◌, ◌≤◌, inl, inr, ⊎_elim, arith, w64, to_z, of_z, rules, ltb-false, ltb-true}
+use Rattle.std.proofs.Common.{◌≡◌, ◌+◌, ◌-◌, ◌*◌, ◌^◌, ◌≤◌, inl, inr, arith, w64, to_z, of_z, rules}
 use Rattle.float_format.specs.Format.{Format, sign_bit}
 use Rattle.float_format.specs.Width.{format}
 use Rattle.float_format.proofs.Sizes.{sizes}
 use Rattle.scaling.proofs.Exponents.{below_zero, from_zero}
 use Rattle.scaling.proofs.Places.{Outside, Distance, some_distance, Answered, placed_normal, placed_below, placed_none, placed_above}
-use Rattle.scaling.proofs.placed.Goals.{After-infinity_of, After-power, After-shifted, After-wrapping_sub_u64-d, Joined-else-t-gt0, Start}
+use Rattle.scaling.proofs.placed.Goals.{After-infinity_of, After-power, After-shifted, After-wrapping_sub_u64-d, Joined-else-t-gt0, Start, else-t-gt0-via-then-t-gt0+else-t-top_field, else-t-gt0-via-else-t-gt0}
 use Rattle.scaling.proofs.placed.Goals as goal
 
 -- the format
@@ -23,12 +23,14 @@ normal : (c : After-power) → Answered (at (goal.at.After-power c).Start) c.arg
 normal c =
     let s = c in
     placed_normal (at (goal.at.After-power c).Start) s.args.x s.args.m s.args.t s.args.n c.signed_zero-zero.result s.requires.0 s.requires.1 s.requires.2 c.signed_zero-zero.ensures
-    c.power.result c.power.ensures c.else-t-gt0.true (omega (arith, ltb-true s.args.t c.top_field.result c.if-t-top_field.true, c.top_field.ensures))
+    c.power.result c.power.ensures c.if-t-gt0.true (omega (arith, c.if-t-top_field.true, c.top_field.ensures))
 
 outside : (c : Joined-else-t-gt0) → Outside (at (goal.at.Joined-else-t-gt0 c).Start) c.args.t
 outside c =
-    ⊎_elim (λ w. inr (omega (arith, ltb-false c.args.t w.1.result w.2.false, w.1.ensures)))
-    (λ w. inl (omega (arith, w.false))) c.else-t-gt0.branch
+    elim c.else-t-gt0.branch [
+      | else-t-gt0-via-then-t-gt0+else-t-top_field w ↦ inr (omega (arith, w.if-t-top_field.false, w.top_field.ensures))
+      | else-t-gt0-via-else-t-gt0 w ↦ inl (omega (arith, w.if-t-gt0.false))
+    ]
 
 pub overflow_mul-result : goal.overflow_mul-result
 overflow_mul-result c = omega (arith, (normal (goal.at.overflow_mul-result c).After-power).2, sign-most (goal.at.overflow_mul-result c).Start)
@@ -43,7 +45,7 @@ pub returns-then-t-top_field : goal.returns-then-t-top_field
 returns-then-t-top_field c = normal (goal.at.returns-then-t-top_field c).After-power
 
 distance : (c : After-wrapping_sub_u64-d) → Distance c.wrapping_sub_u64-d.result c.args.t
-distance c = record { word = omega arith; sum = c.wrapping_sub_u64-d.ensures }
+distance c = record { word = omega arith; sum = c.wrapping_sub_u64-d.ensures.value }
 
 pub shifted-requires : goal.shifted-requires
 shifted-requires c =

@@ -1,5 +1,5 @@
 -- `power_of` meets its contract. Assumes nothing.
-use Rattle.std.proofs.Common.{ℕ, ◌+◌, ◌-◌, ◌^◌, ◌<◌, pos, ◌-ℤ◌, ap, ◌∙◌, arith, w64, rules}
+use Rattle.std.proofs.Common.{ℕ, ◌+◌, ◌-◌, ◌^◌, ◌<◌, pos, ◌-ℤ◌, ap, ◌∙◌, arith, w64}
 use mir.ValLaws.{to_z-of_z}
 use Rattle.float_format.specs.Format.{Format}
 use Rattle.float_format.specs.Width.{format}

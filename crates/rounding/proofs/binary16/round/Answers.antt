@@ -3,7 +3,6 @@ use native.Mathlib.Omega.{arith}
 use Rattle.float_format.specs.Format.{binary16}
 use Rattle.float_format.specs.declared.Direction.TheVariants.{HalfAway}
 use Rattle.rounding.proofs.Directions.{not_finite_is}
-use borrow.Author.Rules.{rules}
 use Rattle.rounding.proofs.binary16.round.Goals as goal
 
 pub returns : goal.returns

@@ -1,11 +1,9 @@
 -- `binary32::round_finite` meets its contract: the mask and what is cut, by the arms that gave them. Assumes nothing.
 use native.Mathlib.Omega.{arith}
-use mathlib.Core.Logic.{⊎_elim}
 use mathlib.Core.Path.{refl}
 use Rattle.float_format.specs.Format.{binary32}
 use Rattle.rounding.specs.Shape.{Mask}
 use Rattle.rounding.proofs.Masks.{mask_shifted, mask_none, sum_fits, low_is, high_is}
-use borrow.Author.Rules.{rules}
 use Rattle.rounding.proofs.binary32.round_finite.Goals.{Joined-e-lt150, else-e-lt126, else-e-lt150, then-e-lt126, then-e-lt150}
 use Rattle.rounding.proofs.binary32.round_finite.Goals as goal
 
@@ -20,4 +18,4 @@ overflow_add-sum-2 c = record { fits = sum_fits binary32 c.args.x c.args.e c.if-
 
 pub returns : goal.returns
 returns c =
-    elim c.if-e-lt126.branch [ then-e-lt126 w ↦ rw w.1 (low_is binary32 c.args.x c.args.e c.if-e-lt150.mask 32 c.requires (mask (goal.at.returns c).Joined-e-lt150) (omega arith) _ refl (omega (arith, w.if-e-lt126.true))) | else-e-lt126 w ↦ rw w.1 (high_is binary32 c.args.x c.args.e c.if-e-lt150.mask 32 c.requires (mask (goal.at.returns c).Joined-e-lt150) (omega arith) _ refl (omega (arith, w.if-e-lt126.false))) ]
+    elim c.if-e-lt126.branch [ then-e-lt126 w ↦ rw w.cut-is (low_is binary32 c.args.x c.args.e c.if-e-lt150.mask 32 c.requires (mask (goal.at.returns c).Joined-e-lt150) (omega arith) _ refl (omega (arith, w.if-e-lt126.true))) | else-e-lt126 w ↦ rw w.cut-is (high_is binary32 c.args.x c.args.e c.if-e-lt150.mask 32 c.requires (mask (goal.at.returns c).Joined-e-lt150) (omega arith) _ refl (omega (arith, w.if-e-lt126.false))) ]
