@@ -1,6 +1,6 @@
 -- A function whose body is `match k { 0 => .., 1 => .., .. _ => .. }`, a constant u32 in each arm, answers a rule at k where its arms are those that the
 -- rule gives. One law over the number of arms, by induction on it: the borrow checker's own rules, arm after arm, with one claim for every arm (its
--- plan would have a claim for each, and takes no more than 512 arms). Assumes nothing.
+-- plan would have a claim for each, and does not take so many arms). Assumes nothing.
 use mathlib.Core.Path.{refl, sym, subst}
 use mathlib.Core.Bool.{Bool, ◌&&◌}
 use mathlib.Core.List.{List, [], ◌∷◌}

@@ -25,7 +25,7 @@ pub mod binary32;
 pub mod binary64;
 
 // What lround answers: a whole number, or refusal 1 or 3.
-#[derive(Drop)]
+#[derive(Clone, Copy)]
 pub enum Integer {
     Whole(i64),
     NotANumber,

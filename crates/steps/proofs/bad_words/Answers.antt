@@ -1,6 +1,5 @@
 -- `bad_words` meets its contract. Assumes nothing.
 use mathlib.Core.Path.{◌∙◌}
-use borrow.Author.Rules.{rules}
 use Rattle.steps.proofs.bad_words.Goals as goal
 
 pub returns : goal.returns

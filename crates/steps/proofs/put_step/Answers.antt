@@ -3,7 +3,6 @@
 use native.Mathlib.Omega.{arith}
 use lib.ListN.{length-set}
 use Rattle.recipe.proofs.Packed.{put_more}
-use borrow.Author.Rules.{rules}
 use Rattle.steps.proofs.put_step.Goals as goal
 
 pub bounds-steps-at-2 : goal.bounds-steps-at-2

@@ -1,6 +1,5 @@
 -- `above_least` meets its contract. Assumes nothing.
 use borrow.Author.Tests.{lt-ltb, le-ltb}
-use borrow.Author.Rules.{rules}
 use Rattle.steps.proofs.order.above_least.Goals as goal
 
 pub returns-then-p-lt9223372036854775808 : goal.returns-then-p-lt9223372036854775808

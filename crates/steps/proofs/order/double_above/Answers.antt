@@ -1,6 +1,5 @@
 -- `double_above` meets its contract: ranks compare as the numbers do. Assumes nothing.
 use Rattle.steps.proofs.Compare.{rank_test}
-use borrow.Author.Rules.{rules}
 use Rattle.steps.proofs.order.double_above.Goals as goal
 
 pub returns : goal.returns

@@ -1,7 +1,6 @@
 -- `whole_above` meets its contract: the distances from the smallest compare as the numbers do. Assumes nothing.
 use native.Mathlib.Omega.{arith}
 use Rattle.steps.proofs.Compare.{biased_test}
-use borrow.Author.Rules.{rules}
 use Rattle.steps.proofs.order.whole_above.Goals as goal
 
 pub returns : goal.returns

@@ -1,6 +1,5 @@
 -- `declares_input` meets its contract: what is asked of the row. Assumes nothing.
 use mathlib.Core.Path.{ap, ◌∙◌}
-use borrow.Author.Rules.{rules}
 use Rattle.recipe.specs.Table.{is_input}
 use Rattle.steps.proofs.table.declares_input.Goals as goal
 

@@ -1,0 +1,21 @@
+-- `ew_check_float_sum` meets its contract. Assumes nothing.
+use mathlib.Core.Path.{sym, ◌∙◌}
+use Rattle.float_format.specs.Format.{binary64}
+use Rattle.arithmetic.specs.Arithmetic.{sum}
+use Rattle.cross_check.proofs.Finite.{finite, taken, left}
+use Rattle.cross_check.proofs.ew_check_float_sum.Goals as goal
+
+pub sum-requires : goal.sum-requires
+sum-requires c =
+    let a = c.args in
+    finite a.x a.y (sym c.both_finite.ensures ∙ c.if-both_finite.true)
+
+pub returns-then-both_finite : goal.returns-then-both_finite
+returns-then-both_finite c =
+    let a = c.args in
+    c.sum.ensures ∙ taken a.x a.y (sum binary64 a.x a.y) (sym c.both_finite.ensures ∙ c.if-both_finite.true)
+
+pub returns : goal.returns
+returns c =
+    let a = c.args in
+    left a.x a.y (sum binary64 a.x a.y) (sym c.both_finite.ensures ∙ c.if-both_finite.false)
