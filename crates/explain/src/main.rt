@@ -8,20 +8,31 @@
 use output::LINE;
 use programs::LOOKED_AT;
 
-fn main() {
-    if stdio::refuses_arguments(b"usage: explain <recipe >explanation (no argument is taken)\n") {
+fn main(rt: HostRuntime) {
+    if stdio::refuses_arguments(
+        &rt,
+        b"usage: explain <recipe >explanation (no argument is taken)\n",
+    ) {
         return;
     }
     let mut text = [0u8; LOOKED_AT];
     let mut output = [0u8; LINE];
-    let got = stdio::read_full(&mut text);
-    if got.failed {
-        os::fail(b"explain: no explanation is written: cannot read standard input");
+    let got = stdio::read_full(&rt, &mut text);
+    if let Some(error) = &got.failed {
+        stdio::fail(
+            &rt,
+            "explain: no explanation is written: cannot read standard input",
+            error,
+        );
         return;
     }
     let n = got.count;
     let size = output::write_explanation(&text[..n], &mut output);
-    if !stdio::write_last(&output[..size]) {
-        os::fail(b"explain: the explanation is incomplete: cannot write standard output");
+    if let Err(error) = stdio::write_last(&rt, &output[..size]) {
+        stdio::fail(
+            &rt,
+            "explain: the explanation is incomplete: cannot write standard output",
+            &error,
+        );
     }
 }

@@ -9,25 +9,35 @@
 // together are the output that the rules ask for. That `write` is handed this front is to be read below: it ensures nothing that could say so.
 #![tactic(auto)]
 
+use std::io;
 use stream::{feed, finish, is_done};
 
 // How many bytes are read at a time, and how many of the output are gathered before they are written.
 const CHUNK: usize = 8192;
 
 // Says why standard input could not be read.
-fn tell_read() {
-    os::fail(b"run: answers are incomplete: cannot read standard input");
+fn tell_read(rt: &HostRuntime, error: &io::Error) {
+    stdio::fail(
+        rt,
+        "run: answers are incomplete: cannot read standard input",
+        error,
+    );
 }
 
 // Says why standard output could not be written.
-fn tell_written() {
-    os::fail(b"run: answers are incomplete: cannot write standard output");
+fn tell_written(rt: &HostRuntime, error: &io::Error) {
+    stdio::fail(
+        rt,
+        "run: answers are incomplete: cannot write standard output",
+        error,
+    );
 }
 
 // A proved loop ends, and nothing says that the input does: the turns are counted down from a number that no run uses up. None are left
 // after the end of the input, and after a refused recipe.
-fn main() {
+fn main(rt: HostRuntime) {
     if stdio::refuses_arguments(
+        &rt,
         b"usage: run <input >answers (a recipe, an empty line, then one frame per line; no argument is taken)\n",
     ) {
         return;
@@ -49,17 +59,17 @@ fn main() {
             let put = progress.put;
             state = next;
             at = progress.at;
-            if !stdio::write(&output[..put]) {
-                tell_written();
+            if let Err(error) = stdio::write(&rt, &output[..put]) {
+                tell_written(&rt, &error);
                 return;
             }
             if is_done(state) {
                 turns = 0;
             }
         } else {
-            let got = stdio::read(&mut input);
-            if got.failed {
-                tell_read();
+            let got = stdio::read(&rt, &mut input);
+            if let Some(error) = &got.failed {
+                tell_read(&rt, error);
                 return;
             }
             n = got.count;
@@ -70,7 +80,7 @@ fn main() {
         }
     }
     let put = finish(state, &buffer, &mut steps, &mut output);
-    if !stdio::write_last(&output[..put]) {
-        tell_written();
+    if let Err(error) = stdio::write_last(&rt, &output[..put]) {
+        tell_written(&rt, &error);
     }
 }

@@ -7,20 +7,28 @@
 use programs::LOOKED_AT;
 use semantics::LONGEST_SHEET;
 
-fn main() {
-    if stdio::refuses_arguments(b"usage: sheet <recipe >sheet (no argument is taken)\n") {
+fn main(rt: HostRuntime) {
+    if stdio::refuses_arguments(&rt, b"usage: sheet <recipe >sheet (no argument is taken)\n") {
         return;
     }
     let mut text = [0u8; LOOKED_AT];
     let mut output = [0u8; LONGEST_SHEET];
-    let got = stdio::read_full(&mut text);
-    if got.failed {
-        os::fail(b"sheet: no sheet is written: cannot read standard input");
+    let got = stdio::read_full(&rt, &mut text);
+    if let Some(error) = &got.failed {
+        stdio::fail(
+            &rt,
+            "sheet: no sheet is written: cannot read standard input",
+            error,
+        );
         return;
     }
     let n = got.count;
     let size = output::write_sheet(&text[..n], &mut output);
-    if !stdio::write_last(&output[..size]) {
-        os::fail(b"sheet: the sheet is incomplete: cannot write standard output");
+    if let Err(error) = stdio::write_last(&rt, &output[..size]) {
+        stdio::fail(
+            &rt,
+            "sheet: the sheet is incomplete: cannot write standard output",
+            &error,
+        );
     }
 }

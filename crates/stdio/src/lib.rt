@@ -1,134 +1,166 @@
 // Standard input and output, so that nothing is lost in silence: a call that a signal interrupts is made again, and so is one on a non-blocking
-// descriptor that is not ready, after a pause. Every other failure is the caller's to tell, by `os::fail`.
+// descriptor that is not ready, after a pause. Every other failure is the caller's to tell, by `fail`.
 //
 // What a call reads or writes no contract can say; these say which bytes of the buffer it may speak of.
 #![tactic(auto)]
 
-ghost use Rattle.io.specs.Counts.{IsPrefixLen};
+ghost use Rattle.std.specs.Prelude.{◌≤◌, length};
 
-use pause::pause;
+use std::env::FillError;
+use std::fs::OpenOptions;
+use std::io::{self, ErrorKind, Read, Write};
+use std::rt::Env;
 
 mod pause;
+mod reason;
 
-// What a read gave: so many bytes at the start of the buffer, and none at the end of the input. Or that it failed.
+use pause::pause;
+pub use reason::fail;
+
+// What a read gave: so many bytes at the start of the buffer, and none at the end of the input. Or that it failed, and why.
 #[derive(Drop)]
 pub struct Got {
     pub count: usize,
-    pub failed: bool,
+    pub failed: Option<io::Error>,
 }
 
-// Whether the call that has just failed is to be made again.
-fn is_to_be_repeated() -> bool {
-    let error = os::errno();
-    if error == libc::EAGAIN {
-        pause();
-        return true;
+// Whether the call that has failed so is to be made again.
+fn is_to_be_repeated(rt: &HostRuntime, error: &io::Error) -> bool {
+    match error.kind() {
+        ErrorKind::WouldBlock => {
+            pause(rt);
+            true
+        }
+        kind => kind == ErrorKind::Interrupted,
     }
-    error == libc::EINTR
 }
 
 // Reads once from standard input. A proved loop ends, and nothing says that signals do: the turns are counted down from a number that no run
 // uses up.
-pub fn read(buf: &mut [u8]) -> Got
-    ensures { IsPrefixLen result.count buf.new }
+pub fn read(rt: &HostRuntime, buf: &mut [u8]) -> Got
+    ensures { result.count ≤ length buf.new }
 {
     let mut turns = u64::MAX;
     while turns > 0 {
         turns -= 1;
-        let got = libc::read(libc::STDIN_FILENO, buf);
-        if got >= 0 {
-            return Got {
-                count: io::count(got, buf),
-                failed: false,
-            };
-        }
-        if !is_to_be_repeated() {
-            turns = 0;
+        match rt.stdin().read(buf) {
+            Ok(count) => {
+                return Got {
+                    count,
+                    failed: None,
+                };
+            }
+            Err(error) => {
+                if !is_to_be_repeated(rt, &error) {
+                    return Got {
+                        count: 0,
+                        failed: Some(error),
+                    };
+                }
+            }
         }
     }
     Got {
         count: 0,
-        failed: true,
+        failed: Some(io::Error::from(ErrorKind::TimedOut)),
     }
 }
 
 // Reads from standard input until the buffer is full or the input ends.
-pub fn read_full(buf: &mut [u8]) -> Got
-    ensures { IsPrefixLen result.count buf.new }
+pub fn read_full(rt: &HostRuntime, buf: &mut [u8]) -> Got
+    ensures { result.count ≤ length buf.new }
 {
     let mut done: usize = 0;
     while done < buf.len() {
-        let got = read(&mut buf[done..]);
-        if got.failed {
+        let got = read(rt, &mut buf[done..]);
+        if got.failed.is_some() {
             return Got {
                 count: done,
-                failed: true,
+                failed: got.failed,
             };
         }
         if got.count == 0 {
             return Got {
                 count: done,
-                failed: false,
+                failed: None,
             };
         }
         done += got.count;
     }
     Got {
         count: done,
-        failed: false,
+        failed: None,
     }
 }
 
 // Writes all of these bytes to standard output, and answers whether it took them.
-pub fn write(bytes: &[u8]) -> bool {
+pub fn write(rt: &HostRuntime, bytes: &[u8]) -> io::Result<()> {
     let mut done: usize = 0;
     let mut turns = u64::MAX;
     while done < bytes.len() {
         if turns == 0 {
-            return false;
+            return Err(io::Error::from(ErrorKind::TimedOut));
         }
         turns -= 1;
-        let put = libc::write(libc::STDOUT_FILENO, &bytes[done..]);
-        if put == 0 {
-            return false;
-        }
-        if put > 0 {
-            done += io::count(put, &bytes[done..]);
-        } else {
-            if !is_to_be_repeated() {
-                return false;
+        match rt.stdout().write(&bytes[done..]) {
+            Ok(0) => return Err(io::Error::from(ErrorKind::WriteZero)),
+            Ok(put) => done += put,
+            Err(error) => {
+                if !is_to_be_repeated(rt, &error) {
+                    return Err(error);
+                }
             }
         }
     }
-    true
+    Ok(())
 }
 
-// Closes standard output, and answers whether all that was written to it has arrived: a file system over a network may say only here that it has
-// no room. One that was closed from the start, and to which nothing was written, is no failure.
-fn close() -> bool {
-    if libc::close(libc::STDOUT_FILENO) == 0 {
-        return true;
-    }
-    let error = os::errno();
-    if error == libc::EINTR {
-        return true;
-    }
-    error == libc::EBADF
+// Whether a sync that has failed so says only that this file is none that can be synced.
+fn is_never_synced(error: &io::Error) -> bool {
+    matches!(
+        error.kind(),
+        ErrorKind::InvalidInput | ErrorKind::ReadOnlyFilesystem | ErrorKind::Unsupported
+    )
 }
 
-// Writes the last of the output, closes it, and answers whether all has arrived.
-pub fn write_last(bytes: &[u8]) -> bool {
-    if !write(bytes) {
-        return false;
+// Standard output among the open files of this process.
+const OUTPUT: &str = "/proc/self/fd/1";
+
+// Answers whether all that was written to standard output has arrived: a file system over a network may say only at the end that it has no room.
+// `std` tells no error of a close, so a regular file is opened once more and synced, which tells the same error. Where it cannot be opened, as where
+// it was closed from the start and nothing was written to it, no more can be known. Whatever is no regular file is left alone: a pipe and a
+// terminal keep nothing back, and to open a pipe may wait for a reader.
+fn close(rt: &HostRuntime) -> io::Result<()> {
+    let is_file = match std::fs::metadata(rt, OUTPUT) {
+        Ok(metadata) => metadata.is_file(),
+        Err(_) => false,
+    };
+    if !is_file {
+        return Ok(());
     }
-    close()
+    match OpenOptions::new().write(true).open(rt, OUTPUT) {
+        Ok(file) => match file.sync_data() {
+            Err(error) if !is_never_synced(&error) => Err(error),
+            _ => Ok(()),
+        },
+        Err(_) => Ok(()),
+    }
+}
+
+// Writes the last of the output, ends it, and answers whether all has arrived.
+pub fn write_last(rt: &HostRuntime, bytes: &[u8]) -> io::Result<()> {
+    write(rt, bytes)?;
+    close(rt)
 }
 
 // Whether the program was started with an argument, of which none of ours takes any: then its line of usage goes to standard error.
-pub fn refuses_arguments(usage: &[u8]) -> bool {
-    if os::arg_count() < 2 {
-        return false;
+pub fn refuses_arguments(rt: &HostRuntime, usage: &[u8]) -> bool {
+    let mut first = [0u8; 1];
+    match rt.arg(1, &mut first) {
+        Err(FillError::NotPresent) => false,
+        _ => {
+            let _ = Write::write_all(&mut rt.stderr(), usage);
+            true
+        }
     }
-    io::write_all(libc::STDERR_FILENO, usage);
-    true
 }

@@ -1,15 +1,8 @@
 // A wait for a descriptor that is not ready.
-use libc::types::timespec;
+use std::thread;
+use std::time::Duration;
 
-// Waits for a millisecond, or less where a signal comes.
-pub(crate) fn pause() {
-    let asked = timespec {
-        tv_sec: 0,
-        tv_nsec: 1000000,
-    };
-    let mut left = timespec {
-        tv_sec: 0,
-        tv_nsec: 0,
-    };
-    libc::nanosleep(&asked, &mut left);
+// Waits for a millisecond.
+pub(crate) fn pause(rt: &HostRuntime) {
+    thread::sleep(rt, Duration::from_millis(1));
 }

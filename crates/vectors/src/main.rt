@@ -46,27 +46,35 @@ fn respond_all(input: &[u8], n: usize, output: &mut [u8])
 }
 
 // Reads until the buffer is full or the input ends, and answers whether there may be more. A last line that is cut off has no answer.
-fn run_some() -> bool {
+fn run_some(rt: &HostRuntime) -> bool {
     let mut input = [0u8; LINES * case::LINE];
     let mut output = [0u8; LINES * answer::LINE];
-    let got = stdio::read_full(&mut input);
-    if got.failed {
-        os::fail(b"vectors: answers are incomplete: cannot read standard input");
+    let got = stdio::read_full(rt, &mut input);
+    if let Some(error) = &got.failed {
+        stdio::fail(
+            rt,
+            "vectors: answers are incomplete: cannot read standard input",
+            error,
+        );
         return false;
     }
     let n = got.count / case::LINE;
     respond_all(&input, n, &mut output);
-    if !stdio::write(&output[..n * answer::LINE]) {
-        os::fail(b"vectors: answers are incomplete: cannot write standard output");
+    if let Err(error) = stdio::write(rt, &output[..n * answer::LINE]) {
+        stdio::fail(
+            rt,
+            "vectors: answers are incomplete: cannot write standard output",
+            &error,
+        );
         return false;
     }
     n == LINES
 }
 
 // A proved loop ends, and nothing says that the input does: the turns are counted down from a number that no run uses up.
-fn main() {
+fn main(rt: HostRuntime) {
     let mut turns = u64::MAX;
-    while turns > 0 && run_some() {
+    while turns > 0 && run_some(&rt) {
         turns -= 1;
     }
 }

@@ -3,7 +3,7 @@
 //! and why.
 //!
 //! The reference's own programs are not held to this. The exit status is not looked at, since the
-//! language gives a program none; but no fault may end one by a signal, other than SIGPIPE.
+//! language gives a program none; but no fault may end one by a signal.
 
 mod arguments;
 mod injected;

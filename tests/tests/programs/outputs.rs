@@ -12,16 +12,14 @@ use std::process::{Command, ExitStatus, Stdio};
 use std::thread;
 use std::time::Duration;
 
-const SIGPIPE: i32 = 13;
-
-/// The program itself, and the program under a parent that has it ignore SIGPIPE, so that a write
-/// fails where it would else end the program; and whether SIGPIPE ends it.
-fn starts(program: &Path) -> [(Command, bool); 2] {
+/// The program itself, and the program under a parent that has it ignore SIGPIPE: it ignores that signal
+/// by itself, so that a write fails where the signal would else end the program.
+fn starts(program: &Path) -> [Command; 2] {
     let mut ignoring = Command::new("sh");
     ignoring
         .args(["-c", "trap '' PIPE; exec \"$0\""])
         .arg(program);
-    [(Command::new(program), true), (ignoring, false)]
+    [Command::new(program), ignoring]
 }
 
 /// Frames as long as the program takes them. It has to stop by itself.
@@ -37,21 +35,12 @@ fn feed_until_it_ends(child: &mut Child) -> (ExitStatus, String) {
     (status, String::from_utf8_lossy(&errors).into_owned())
 }
 
-/// SIGPIPE ended the program, silently; or it did so itself, and said why.
+/// The program ended by itself, and said why.
 #[track_caller]
-fn assert_ended(
-    program: &Program,
-    path: &Path,
-    by_signal: bool,
-    (status, errors): (ExitStatus, String),
-    why: &str,
-) {
+fn assert_ended(program: &Program, path: &Path, (status, errors): (ExitStatus, String), why: &str) {
     let name = path.display();
     if path == Path::new(program.reference) {
         assert!(status.code().is_some(), "{name}: {status}");
-        assert_eq!(errors, "", "{name}");
-    } else if by_signal {
-        assert_eq!(status.signal(), Some(SIGPIPE), "{name}: {status}");
         assert_eq!(errors, "", "{name}");
     } else {
         assert_eq!(status.signal(), None, "{name}: {status}");
@@ -62,7 +51,7 @@ fn assert_ended(
 #[test]
 fn a_reader_that_goes_away() {
     for path in RUN.paths() {
-        for (mut command, by_signal) in starts(&path) {
+        for mut command in starts(&path) {
             let mut child = Child::spawn(command.stdout(Stdio::piped()));
             let mut output = child.take_output();
             assert!(child.offer(format!("{EXAMPLE}\n").as_bytes()));
@@ -73,7 +62,7 @@ fn a_reader_that_goes_away() {
             assert_eq!(&line, b"02ffffffffffffffff\n");
             drop(output);
             let ended = feed_until_it_ends(&mut child);
-            assert_ended(&RUN, &path, by_signal, ended, "Broken pipe");
+            assert_ended(&RUN, &path, ended, "Broken pipe");
         }
     }
 }
@@ -82,14 +71,14 @@ fn a_reader_that_goes_away() {
 fn a_reader_that_was_never_there() {
     for program in PROGRAMS {
         for path in program.paths() {
-            for (mut command, by_signal) in starts(&path) {
+            for mut command in starts(&path) {
                 let mut child = Child::spawn(command.stdout(Stdio::piped()));
                 drop(child.take_output());
                 // A program that another test is just starting has a copy of the pipe until it runs.
                 thread::sleep(Duration::from_millis(50));
                 child.offer(format!("{EXAMPLE}\n").as_bytes());
                 let ended = feed_until_it_ends(&mut child);
-                assert_ended(&program, &path, by_signal, ended, "Broken pipe");
+                assert_ended(&program, &path, ended, "Broken pipe");
             }
         }
     }
@@ -103,7 +92,7 @@ fn a_full_device() {
             let mut child = Child::spawn(Command::new(&path).stdout(full));
             child.offer(format!("{EXAMPLE}\n").as_bytes());
             let ended = feed_until_it_ends(&mut child);
-            assert_ended(&program, &path, false, ended, "No space left on device");
+            assert_ended(&program, &path, ended, "No space left on device");
         }
     }
 }

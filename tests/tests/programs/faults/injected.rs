@@ -2,12 +2,13 @@
 //! on its standard descriptors. `make faults-deps` installs strace; without it these tests are left
 //! out, and say so.
 
-use super::left_out;
 use super::waiting::non_blocking;
+use super::{file_of, left_out};
 use crate::child::{Child, Ending};
 use crate::literal::{EXAMPLE, TURNED_DOWN};
 use crate::{Program, EXPLAIN, RUN, SHEET};
 use std::fs;
+use std::io::{Read, Seek};
 use std::path::PathBuf;
 use std::process::{self, Command};
 use std::sync::atomic::{AtomicU32, Ordering};
@@ -87,6 +88,11 @@ static STRACE: LazyLock<bool> = LazyLock::new(|| {
 /// The calls that can wait for a descriptor, or for a time.
 const WAITS: &str = "poll,ppoll,select,pselect6,epoll_wait,epoll_pwait,nanosleep,clock_nanosleep";
 
+/// The call that asks whether all has arrived in a file, at the end, and the descriptor of the output
+/// that the program has opened once more for it.
+const SYNC: &str = "fdatasync";
+const OPENED: i32 = 3;
+
 /// strace, set to write a program's calls to a file and to answer for some of them.
 fn strace(program: &Program, injections: &[&str]) -> (Command, PathBuf) {
     static COUNT: AtomicU32 = AtomicU32::new(0);
@@ -95,7 +101,7 @@ fn strace(program: &Program, injections: &[&str]) -> (Command, PathBuf) {
     let log = std::env::temp_dir().join(log);
     let mut command = Command::new("strace");
     command.arg("-o").arg(&log).args(["-s", "0", "-e"]);
-    command.arg(format!("trace=read,write,close,{WAITS}"));
+    command.arg(format!("trace=read,write,{SYNC},{WAITS}"));
     for injection in injections {
         command.args(["-e", &format!("inject={injection}")]);
     }
@@ -106,7 +112,10 @@ fn strace(program: &Program, injections: &[&str]) -> (Command, PathBuf) {
 /// The program under such a command, its input in these pieces. Each is taken before the next one comes,
 /// and the program is left alone for a while before the input ends.
 fn traced((mut command, log): (Command, PathBuf), pieces: &[&str], pause: Duration) -> Traced {
-    let mut child = Child::start_command(&mut command);
+    taken(Child::start_command(&mut command), log, pieces, pause)
+}
+
+fn taken(mut child: Child, log: PathBuf, pieces: &[&str], pause: Duration) -> Traced {
     for piece in pieces {
         child.offer(piece.as_bytes());
         child.wait_until_taken();
@@ -145,6 +154,17 @@ impl Case {
         )
     }
 
+    /// The same with a file for the output: nothing else is synced.
+    fn with_file(&self, injections: &[&str]) -> Traced {
+        let mut file = file_of("");
+        let (mut command, log) = strace(&self.program, injections);
+        let child = Child::spawn(command.stdout(file.try_clone().unwrap()));
+        let mut traced = taken(child, log, &self.pieces, Duration::ZERO);
+        file.rewind().unwrap();
+        file.read_to_end(&mut traced.ending.output).unwrap();
+        traced
+    }
+
     /// strace answered for that call, and the output is whole and nothing was said.
     fn assert_unharmed(&self, name: &str, descriptor: i32, injection: &str, traced: &Traced) {
         traced.bytes_before(name, descriptor);
@@ -154,7 +174,11 @@ impl Case {
 
     /// With strace answering so for one call after the other of this name on that descriptor.
     fn with_each(&self, name: &str, descriptor: i32, answer: &str) -> Vec<(String, Traced)> {
-        let places = self.with(&[]).places(name, descriptor);
+        let with = match name {
+            SYNC => Case::with_file as fn(&Case, &[&str]) -> Traced,
+            _ => Case::with,
+        };
+        let places = with(self, &[]).places(name, descriptor);
         assert!(
             !places.is_empty(),
             "{} never calls {name} on {descriptor}, so that it cannot see its error",
@@ -164,7 +188,7 @@ impl Case {
             .iter()
             .map(|place| format!("{name}:{answer}:when={place}"));
         injections
-            .map(|injection| (injection.clone(), self.with(&[&injection])))
+            .map(|injection| (injection.clone(), with(self, &[&injection])))
             .collect()
     }
 }
@@ -244,7 +268,7 @@ fn a_write_fails() {
     }
 }
 
-/// As on network file systems, which may keep an error until then.
+/// As on network file systems, which may keep an error until then. The program asks for it by a sync.
 #[test]
 fn closing_the_output_fails() {
     for case in cases() {
@@ -253,7 +277,7 @@ fn closing_the_output_fails() {
             ("ENOSPC", "No space left on device"),
         ] {
             let errors = case.program.cannot_write(why);
-            for (injection, traced) in case.with_each("close", 1, &format!("error={error}")) {
+            for (injection, traced) in case.with_each(SYNC, OPENED, &format!("error={error}")) {
                 case.program
                     .assert_ended(&injection, &traced.ending, &case.whole(), &errors);
             }
@@ -261,8 +285,19 @@ fn closing_the_output_fails() {
     }
 }
 
-/// Interrupted, or not ready: the program calls again, or waits and calls again. A close that is
-/// interrupted has closed.
+/// What is no failure of the output: the file is none that can be synced.
+#[test]
+fn an_output_that_is_never_synced() {
+    for case in cases() {
+        for error in ["EINVAL", "EROFS", "ENOSYS", "EOPNOTSUPP"] {
+            for (injection, traced) in case.with_each(SYNC, OPENED, &format!("error={error}")) {
+                case.assert_unharmed(SYNC, OPENED, &injection, &traced);
+            }
+        }
+    }
+}
+
+/// Interrupted, or not ready: the program calls again, or waits and calls again.
 #[test]
 fn calls_to_be_repeated() {
     for case in cases() {
@@ -271,7 +306,7 @@ fn calls_to_be_repeated() {
             ("read", 0, "EAGAIN"),
             ("write", 1, "EINTR"),
             ("write", 1, "EAGAIN"),
-            ("close", 1, "EINTR"),
+            (SYNC, OPENED, "EINTR"),
         ] {
             for (injection, traced) in case.with_each(name, descriptor, &format!("error={error}")) {
                 case.assert_unharmed(name, descriptor, &injection, &traced);
