@@ -9,7 +9,7 @@ use recipe::LONGEST_TEXT;
 pub const LOOKED_AT: usize = LONGEST_TEXT + 1;
 
 // Where the input stands: in the recipe, in the frames, or after a refused recipe, where nothing is answered any more.
-#[derive(Drop)]
+#[derive(Clone, Copy)]
 pub enum Stage {
     Recipe,
     Frames,
@@ -19,7 +19,7 @@ pub enum Stage {
 // What is known after some of the input. In the recipe, count bytes of it stand in the buffer. In the frames, the recipe was read, and the
 // lent words hold its steps, as many as `steps` says; count bytes of the present line stand in the buffer, or count is 257, and the line is
 // longer than the longest frame.
-#[derive(Drop)]
+#[derive(Clone, Copy)]
 pub struct State {
     pub stage: Stage,
     pub count: usize,

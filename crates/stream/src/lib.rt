@@ -23,7 +23,7 @@ mod head;
 pub use frames::answer_lines;
 
 // What feeding came to: the state after it, the place in the chunk up to which it is used, and the bytes put out.
-#[derive(Drop)]
+#[derive(Clone, Copy)]
 pub struct Progress {
     pub state: State,
     pub at: usize,

@@ -1,9 +1,8 @@
 -- `input_total` meets its contract. The invariant is `Reading.Counting`; the measure is the steps left. Assumes nothing.
 use mathlib.Core.Path.{◌≡◌}
-use Prim.Native.Nat.{◌-◌}
 use native.Mathlib.Omega.{arith}
 use Rattle.recipe.specs.Table.{row_of, is_input}
-use Rattle.frame.proofs.Reading.{next_is, Counting, counting_start, counting_more}
+use Rattle.frame.proofs.Reading.{next_is, counting_start, counting_more}
 use Rattle.frame.proofs.input_total.Goals as goal
 
 pub loop-i-init : goal.loop-i-init

@@ -1,9 +1,6 @@
 -- `input_total` meets its contract. The invariant is `Reading.Counting`; the measure is the steps left. Assumes nothing.
-use mathlib.Core.Path.{◌≡◌}
 use Prim.Native.Nat.{◌-◌}
-use native.Mathlib.Omega.{arith}
-use Rattle.recipe.specs.Table.{row_of, is_input}
-use Rattle.frame.proofs.Reading.{next_is, Counting, counting_start, counting_more}
+use Rattle.frame.proofs.Reading.{Counting}
 use Rattle.frame.proofs.input_total.Given as goal
 
 abbrev pub invariant-loop-i : goal.invariant-loop-i

@@ -1,6 +1,5 @@
 -- `is_outside` meets its contract, row by row. Assumes nothing.
 use mathlib.Core.Path.{◌∙◌}
-use borrow.Author.Rules.{rules}
 use Rattle.frame.proofs.is_outside.Goals as goal
 
 pub returns-in-Double : goal.returns-in-Double

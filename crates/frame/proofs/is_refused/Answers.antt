@@ -1,6 +1,5 @@
 -- `is_refused` meets its contract: a step that is no input has no word outside its range. Assumes nothing.
 use mathlib.Core.Path.{sym, ◌∙◌}
-use borrow.Author.Rules.{rules}
 use Rattle.recipe.specs.Table.{row_of}
 use Rattle.frame.proofs.Reading.{plain_inside}
 use Rattle.frame.proofs.is_refused.Goals as goal

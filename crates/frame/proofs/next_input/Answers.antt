@@ -1,7 +1,6 @@
 -- `next_input` meets its contract, by its test. Assumes nothing.
 use mathlib.Core.Path.{sym}
 use native.Mathlib.Omega.{arith}
-use borrow.Author.Rules.{rules}
 use Rattle.frame.proofs.next_input.Goals as goal
 
 pub returns-then-declares_input : goal.returns-then-declares_input

@@ -1,10 +1,7 @@
 -- `read_words` meets its contract. The invariant is `Reading.Collecting`: the words so far are the array's first i, with zeros after them; the
 -- measure is the words left. Assumes nothing.
-use mathlib.Core.Path.{refl}
 use Prim.Native.Nat.{◌-◌}
-use native.Mathlib.Omega.{arith}
-use Rattle.frame.proofs.Reading.{field_at, Collecting, collecting_start, collecting_more, collecting_bad, collecting_done, collecting_same}
-use borrow.Author.Rules.{rules}
+use Rattle.frame.proofs.Reading.{Collecting}
 use Rattle.frame.proofs.read_words.Given as goal
 
 abbrev pub invariant-loop-i : goal.invariant-loop-i

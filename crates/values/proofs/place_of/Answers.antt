@@ -1,7 +1,6 @@
 -- `place_of` meets its contract, by its test. Assumes nothing.
 use native.Mathlib.Omega.{arith}
 use borrow.Author.Tests.{lt-ltb, le-ltb}
-use borrow.Author.Rules.{rules}
 use Rattle.values.proofs.place_of.Goals as goal
 
 pub returns-then-a-i : goal.returns-then-a-i

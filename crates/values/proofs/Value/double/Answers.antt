@@ -3,7 +3,6 @@ use mathlib.Core.Path.{sym, ap}
 use Rattle.values.specs.declared.Value.{Value}
 use Rattle.semantics.specs.Value.{as_double}
 use Rattle.values.specs.Seen.{seen}
-use borrow.Author.Rules.{rules}
 use Rattle.values.proofs.Value.double.Goals as goal
 
 pub float_to_bits-result : goal.float_to_bits-result

@@ -1,9 +1,8 @@
 -- `real` meets its contract. Assumes nothing.
 use mathlib.Core.Path.{◌∙◌, ap}
-use mathlib.Core.Logic.{inl, inr, ⊎_elim}
+use mathlib.Core.Logic.{inl, inr}
 use Rattle.semantics.specs.Value.{double}
 use Rattle.values.proofs.Floats.{Picked, picked, carried, float_real, same_bits}
-use borrow.Author.Rules.{rules}
 use Rattle.values.proofs.Value.real.Goals.{Joined-is_nan, else-is_nan, then-is_nan}
 use Rattle.values.proofs.Value.real.Goals as goal
 

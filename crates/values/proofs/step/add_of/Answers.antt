@@ -1,5 +1,4 @@
 -- `add_of` meets its contract. Assumes nothing.
-use borrow.Author.Rules.{rules}
 use Rattle.values.proofs.step.add_of.Goals as goal
 
 pub returns : goal.returns

@@ -9,7 +9,6 @@ use lib.Signed.{mag}
 use mir.Syntax.{w64}
 use mir.ValLaws.{to_z-of_z}
 use Rattle.values.proofs.Sums.{difference_up, difference_down, difference_near}
-use borrow.Author.Rules.{rules}
 use Rattle.values.proofs.step.difference_fits.Goals.{After-magnitude, After-magnitude-2}
 use Rattle.values.proofs.step.difference_fits.Goals as goal
 

@@ -6,7 +6,6 @@ use mir.Syntax.{w64}
 use mir.ValLaws.{to_z-of_z}
 use Rattle.semantics.specs.Value.{whole, done, refused, fits_word}
 use Rattle.values.proofs.Sums.{difference_fits, difference_is}
-use borrow.Author.Rules.{rules}
 use Rattle.values.proofs.step.difference_of.Goals.{After-difference_fits, Then-difference_fits}
 use Rattle.values.proofs.step.difference_of.Goals as goal
 

@@ -1,7 +1,6 @@
 -- `divided` meets its contract. Assumes nothing.
 use mathlib.Core.Path.{refl}
 use Rattle.values.proofs.Outcomes.{accepted, turned_down}
-use borrow.Author.Rules.{rules}
 use Rattle.values.proofs.step.divided.Goals as goal
 
 pub returns-then-refusal-eq0 : goal.returns-then-refusal-eq0

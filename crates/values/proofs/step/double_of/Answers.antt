@@ -1,7 +1,6 @@
 -- `double_of` meets its contract. Assumes nothing.
 use mathlib.Core.Path.{◌≡◌, sym, ap, ◌∙◌}
 use mathlib.Core.Bool.{Bool, cond}
-use mathlib.Core.Logic.{⊎_elim}
 use Prim.Native.Nat.{ℕ, ◌^◌}
 use native.Mathlib.Omega.{arith}
 use lib.IntN.{nat_abs}
@@ -24,8 +23,11 @@ size : (c : Joined-at_least_zero) → c.if-at_least_zero.a ≡ nat_abs c.args.z
 size c =
     let z = c.args.z in
     let e = read (goal.at.Joined-at_least_zero c).Start in
-    elim c.if-at_least_zero.branch [ then-at_least_zero w ↦ w.2 ∙ (rw e at w.1.ensures) ∙ abs_up z (rw e at (sym c.at_least_zero.ensures ∙ w.if-at_least_zero.true)) | else-at_least_zero w ↦ let m : w.1.result ≡ mag z = rw e at w.1.ensures in
-    omega (arith, w.2, m, abs_down z (rw e at (sym c.at_least_zero.ensures ∙ w.if-at_least_zero.false))) ]
+    elim c.if-at_least_zero.branch [
+      | then-at_least_zero w ↦ w.a-is ∙ (rw e at w.magnitude-a.ensures) ∙ abs_up z (rw e at (sym c.at_least_zero.ensures ∙ w.if-at_least_zero.true))
+      | else-at_least_zero w ↦ let m : w.magnitude.result ≡ mag z = rw e at w.magnitude.ensures in
+          omega (arith, w.a-is, m, abs_down z (rw e at (sym c.at_least_zero.ensures ∙ w.if-at_least_zero.false)))
+    ]
 
 pub overflow_add-a : goal.overflow_add-a
 overflow_add-a c =

@@ -11,11 +11,11 @@ use Rattle.semantics.proofs.Sound.Kept.{valid, rest_of, number_of}
 use Rattle.values.specs.Carried.{real}
 use Rattle.values.proofs.Floats.{held_real, held_is}
 use borrow.Author.Rules.{rules}
-use Rattle.values.proofs.step.fraction_of.Goals.{In-Parts-2}
+use Rattle.values.proofs.step.fraction_of.Goals.{In-Parts}
 use Rattle.values.proofs.step.fraction_of.Goals as goal
 
 -- the case tells that x is no NaN, so that its fraction is none
-number : (c : In-Parts-2) → is_nan binary64 (modf_fraction binary64 c.args.x) ≡ false
+number : (c : In-Parts) → is_nan binary64 (modf_fraction binary64 c.args.x) ≡ false
 number c =
     let x = c.args.x in
     let n : is_nan binary64 x ≡ false = sym c.modf.ensures.2 ∙ ap is_nan_of_64 c.in-Parts.is in
@@ -24,11 +24,10 @@ number c =
 pub returns-in-Parts : goal.returns-in-Parts
 returns-in-Parts c =
     let x = c.args.x in
-    let p = c.parts-1.given in
-    let h = c.known_told-1.given.0.1.1.1.0.1 in
-    let e = sym (ap fraction_of_64 p.1) ∙ c.modf.ensures.1 in (
-      ap done (held_is p.0.0.fraction (modf_fraction binary64 x) h e (number (goal.at.returns-in-Parts c).In-Parts-2)),
-      held_real p.0.0.fraction (modf_fraction binary64 x) h e (number (goal.at.returns-in-Parts c).In-Parts-2),
+    let p = c.in-Parts.parts in
+    let e = sym (ap fraction_of_64 c.in-Parts.is) ∙ c.modf.ensures.1 in (
+      ap done (held_is c.in-Parts.parts.fraction (modf_fraction binary64 x) (search rules) e (number (goal.at.returns-in-Parts c).In-Parts)),
+      held_real c.in-Parts.parts.fraction (modf_fraction binary64 x) (search rules) e (number (goal.at.returns-in-Parts c).In-Parts),
     )
 
 pub returns-in-NotANumber : goal.returns-in-NotANumber

@@ -1,6 +1,5 @@
 -- `pattern_of` meets its contract. Assumes nothing.
 use mathlib.Core.Path.{◌≡◌, sym, ap, ◌∙◌}
-use mathlib.Core.Logic.{⊎_elim}
 use Prim.Native.Nat.{ℕ, ◌*◌, ◌^◌, ◌<◌}
 use native.Mathlib.Omega.{arith}
 use lib.IntN.{nat_abs}
@@ -20,8 +19,11 @@ read s = search rules
 rest : (c : Joined-a-lt9007199254740992) → (c.if-a-lt9007199254740992.rest ≡ encode 52 (nat_abs c.args.z * 2 ^ 1074)) × (c.if-a-lt9007199254740992.rest < 2 ^ 63)
 rest c =
     let a : c.args.a ≡ nat_abs c.args.z = c.requires.0 in
-    elim c.if-a-lt9007199254740992.branch [ then-a-lt9007199254740992 w ↦ (w.2 ∙ w.1.ensures.0 ∙ ap (λ (n : ℕ). encode 52 (n * 2 ^ 1074)) a, omega (arith, w.2, w.1.ensures.1)) | else-a-lt9007199254740992 w ↦ let e : 2 ^ 53 ≡ nat_abs c.args.z = omega (arith, a, c.requires.1, w.if-a-lt9007199254740992.false) in
-    (w.rest-is ∙ sym largest ∙ ap (λ (n : ℕ). encode 52 (n * 2 ^ 1074)) e, omega (arith, w.rest-is)) ]
+    elim c.if-a-lt9007199254740992.branch [
+      | then-a-lt9007199254740992 w ↦ (w.rest-is ∙ w.encoded-rest.ensures.0 ∙ ap (λ (n : ℕ). encode 52 (n * 2 ^ 1074)) a, omega (arith, w.rest-is, w.encoded-rest.ensures.1))
+      | else-a-lt9007199254740992 w ↦ let e : 2 ^ 53 ≡ nat_abs c.args.z = omega (arith, a, c.requires.1, w.if-a-lt9007199254740992.false) in
+          (w.rest-is ∙ sym largest ∙ ap (λ (n : ℕ). encode 52 (n * 2 ^ 1074)) e, omega (arith, w.rest-is))
+    ]
 
 pub returns-then-at_least_zero : goal.returns-then-at_least_zero
 returns-then-at_least_zero c = pattern_up c.args.z c.if-a-lt9007199254740992.rest (rw (read (goal.at.returns-then-at_least_zero c).Start) at (sym c.at_least_zero.ensures ∙ c.if-at_least_zero.true)) (rest (goal.at.returns-then-at_least_zero c).Joined-a-lt9007199254740992).0

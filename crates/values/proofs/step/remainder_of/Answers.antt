@@ -1,5 +1,4 @@
 -- `remainder_of` meets its contract. Assumes nothing.
-use borrow.Author.Rules.{rules}
 use Rattle.values.proofs.step.remainder_of.Goals as goal
 
 pub returns : goal.returns

@@ -149,4 +149,4 @@ unfolding rule_of
 returns-in-66 c = (c.multiply_of.ensures.0 ∙ carried-arm (goal.at.returns-in-66 c).After-whole-n c.in-66.is, c.multiply_of.ensures.1)
 
 pub returns-in_default : goal.returns-in_default
-returns-in_default c = (c.whole_of-in_default.ensures.0 ∙ ap carried (unlisted _ _ _ _ _ _ _ c.in_default.rest ∙ arm (goal.at.returns-in_default c).After-whole-n refl), c.whole_of-in_default.ensures.1)
+returns-in_default c = (c.whole_of-in_default.ensures.0 ∙ ap carried (unlisted _ _ _ _ _ _ _ c.before.in_default.in_default-own.rest ∙ arm (goal.at.returns-in_default c).After-whole-n refl), c.whole_of-in_default.ensures.1)

@@ -6,7 +6,6 @@ use mir.Syntax.{w64}
 use mir.ValLaws.{to_z-of_z}
 use Rattle.semantics.specs.Value.{whole, done, refused, fits_word}
 use Rattle.values.proofs.Sums.{sum_fits, sum_is}
-use borrow.Author.Rules.{rules}
 use Rattle.values.proofs.step.sum_of.Goals.{After-sum_fits, Then-sum_fits}
 use Rattle.values.proofs.step.sum_of.Goals as goal
 

@@ -3,7 +3,6 @@ use mathlib.Core.Path.{◌≡◌, sym, ◌∙◌}
 use mathlib.Core.Bool.{◌||◌}
 use Rattle.float_format.specs.Format.{binary64, is_infinite}
 use Rattle.values.proofs.Outcomes.{infinite_operand, infinite_answer, finite_answer}
-use borrow.Author.Rules.{rules}
 use Rattle.values.proofs.step.worked.Goals.{After-any}
 use Rattle.values.proofs.step.worked.Goals as goal
 

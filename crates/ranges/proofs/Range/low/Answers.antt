@@ -1,0 +1,13 @@
+-- `Range::low` meets its contract. Assumes nothing.
+use mathlib.Core.Path.{sym, ap}
+use Rattle.ranges.specs.declared.Range.{Range}
+use Rattle.semantics.specs.Range.{low}
+use Rattle.ranges.specs.Seen.{seen_range}
+use borrow.Author.Rules.{rules}
+use Rattle.ranges.proofs.Range.low.Goals as goal
+
+pub float_to_bits-result : goal.float_to_bits-result
+float_to_bits-result c = (rw c.in-Doubles.is at c.requires).0
+
+pub returns-in-Doubles : goal.returns-in-Doubles
+returns-in-Doubles c = sym (ap (λ (v : Range). low (seen_range v)) c.in-Doubles.is)

@@ -1,0 +1,18 @@
+-- `Range::low_word` meets its contract. Assumes nothing.
+use mathlib.Core.Path.{◌≡◌, sym, ap, ◌∙◌}
+use mir.Syntax.{w64}
+use mir.Val.{of_z, to_z}
+use Rattle.ranges.specs.declared.Range.{Range}
+use Rattle.semantics.specs.Range.{low_word}
+use Rattle.ranges.specs.Seen.{seen_range}
+use borrow.Author.Rules.{rules}
+use Rattle.ranges.proofs.Range.low_word.Goals as goal
+
+pub float_to_bits-result : goal.float_to_bits-result
+float_to_bits-result c = (rw c.in-Doubles.is at c.requires).0
+
+pub returns-in-Doubles : goal.returns-in-Doubles
+returns-in-Doubles c = sym (ap (λ (v : Range). low_word (seen_range v)) c.in-Doubles.is)
+
+pub returns-in-Wholes : goal.returns-in-Wholes
+returns-in-Wholes c = let z = c.in-Wholes.w.low in let e : to_z w64 (of_z w64 z) ≡ z = search rules in c.word.ensures ∙ ap (of_z w64) e ∙ sym (ap (λ (v : Range). low_word (seen_range v)) c.in-Wholes.is)

@@ -1,0 +1,15 @@
+-- `fraction_high` meets its contract. Assumes nothing.
+use mathlib.Core.Path.{◌≡◌, sym, ◌∙◌}
+use mathlib.Core.Bool.{true, false}
+use Rattle.semantics.specs.Range.{is_positive}
+use borrow.Author.Rules.{rules}
+use Rattle.ranges.proofs.bounds.fraction_high.Goals as goal
+
+pub returns-then-double_above : goal.returns-then-double_above
+returns-then-double_above c = let e : is_positive c.args.x ≡ true = sym c.is_positive.ensures ∙ c.if-is_positive.true in rw (e, sym c.double_above.ensures ∙ c.if-double_above.true)
+
+pub returns-then-is_positive : goal.returns-then-is_positive
+returns-then-is_positive c = let e : is_positive c.args.x ≡ true = sym c.is_positive.ensures ∙ c.if-is_positive.true in rw (e, sym c.double_above.ensures ∙ c.if-double_above.false)
+
+pub returns : goal.returns
+returns c = let e : is_positive c.args.x ≡ false = sym c.is_positive.ensures ∙ c.if-is_positive.false in rw e
