@@ -16,7 +16,7 @@ use steps::table::{declares_input, row_of};
 use steps::{any, step_at};
 
 // The words of a frame's inputs, and 0 in the places past them; or that some byte is no lower-case hexadecimal digit.
-#[derive(Drop)]
+#[derive(Clone, Copy)]
 pub struct Inputs {
     pub words: [u64; 16],
     pub malformed: bool,

@@ -154,4 +154,4 @@ unfolding range_rule
 returns-in-66 c = ((rw (c.product_ends.ensures.0, c.product_ends.ensures.1, low-is (goal.at.returns-in-66 c).After-most-most2, high_is (goal.at.returns-in-66 c).After-most-most2, low2-is (goal.at.returns-in-66 c).After-most-most2, high2-is (goal.at.returns-in-66 c).After-most-most2) at c.worked_range-in-66.ensures.0) ∙ product-ranged (a (goal.at.returns-in-66 c).After-most-most2) (b (goal.at.returns-in-66 c).After-most-most2) ∙ arm (goal.at.returns-in-66 c).After-most-most2 c.in-66.is, c.worked_range-in-66.ensures.1)
 
 pub returns-in_default : goal.returns-in_default
-returns-in_default c = ((rw (c.whole_of-in_default.ensures.0, c.whole_of-in_default-2.ensures.0) at c.between-in_default.ensures.0) ∙ ap carried (unbounded (step (goal.at.returns-in_default c).After-most-most2) (a (goal.at.returns-in_default c).After-most-most2) (b (goal.at.returns-in_default c).After-most-most2) c.in_default.rest), c.between-in_default.ensures.1)
+returns-in_default c = ((rw (c.whole_of-in_default.ensures.0, c.whole_of-in_default-2.ensures.0) at c.between-in_default.ensures.0) ∙ ap carried (unbounded (step (goal.at.returns-in_default c).After-most-most2) (a (goal.at.returns-in_default c).After-most-most2) (b (goal.at.returns-in_default c).After-most-most2) c.before.in_default.in_default-own.rest), c.between-in_default.ensures.1)
