@@ -19,7 +19,9 @@ HEADER = build/estrenwind.h
 PROGRAMS = build/sheet build/run build/explain
 COMMAND = build/estrenwind
 export ESTRENWIND_LIB_DIR = $(CURDIR)/build
-SOURCES = crates.txt $(shell find crates -name '*.rt' -o -name '*.antt')
+SOURCES = crates.txt $(shell find crates -name out -prune -o \( -name '*.rt' -o -name '*.antt' \) -print)
+# The processor that the code is compiled for: the oldest, whose instructions every x86-64 has.
+PROCESSOR = --cpu x86-64
 
 # $(call need,TOOL,PURPOSE): one line about what is missing instead of a shell's complaint.
 need = command -v $(1) >/dev/null || { echo "$(1) is missing: it is needed to $(2)" >&2; exit 1; }
@@ -38,24 +40,24 @@ build: $(LIBRARY) $(HEADER) $(PROGRAMS) $(COMMAND) $(CROSS_CHECK)  ## prove the 
 $(LIBRARY): $(SOURCES)
 	@$(call need,rt,prove and compile the crates (the Rattle toolchain))
 	@$(call need,objcopy,align the library's functions (binutils))
-	rt staticlib c_library
+	cd crates/c_library && rt lib $(PROCESSOR)
 	@mkdir -p build
-	objcopy --set-section-alignment '.text.*=64' target/staticlib/libc_library.a $@
+	objcopy --set-section-alignment '.text.*=64' crates/c_library/out/libc_library.a $@
 
 # Sums and products alone, in whole numbers and on floats, for tests and the benchmark. It is not installed.
 $(CROSS_CHECK): $(SOURCES)
 	@$(call need,rt,prove and compile the crates (the Rattle toolchain))
 	@$(call need,objcopy,align the archive's functions (binutils))
-	rt staticlib cross_check
+	cd crates/cross_check && rt lib $(PROCESSOR)
 	@mkdir -p build
-	objcopy --set-section-alignment '.text.*=64' target/staticlib/libcross_check.a $@
+	objcopy --set-section-alignment '.text.*=64' crates/cross_check/out/libcross_check.a $@
 
-# The programs by one check, which proves what they share once.
+# What they share is proved once. `rt run` proves and builds a program and runs it too: here on an empty input, and what it answers is not kept.
 $(PROGRAMS) &: $(SOURCES)
 	@$(call need,rt,prove and compile the programs (the Rattle toolchain))
-	rt check sheet run explain
+	for program in sheet run explain; do (cd crates/$$program && rt run $(PROCESSOR) </dev/null >/dev/null) || exit 1; done
 	@mkdir -p build
-	cp target/bin/sheet target/bin/run target/bin/explain build/
+	cp crates/sheet/out/sheet crates/run/out/run crates/explain/out/explain build/
 
 $(HEADER): include/estrenwind.h
 	@mkdir -p build
@@ -219,13 +221,13 @@ bench-deps:  ## install musl, newlib's source and Imath for the benchmark (Debia
 fmt:  ## put Rattle and Rust sources in their layout
 	@$(call need,rt,format the crates (the Rattle toolchain))
 	@$(call need,cargo,format the Rust tests)
-	rt fmt
+	for crate in crates/*/; do (cd $$crate && rt fmt) || exit 1; done
 	cargo fmt --manifest-path tests/Cargo.toml
 	cargo fmt --manifest-path bindings/rust/Cargo.toml
 	cargo fmt --manifest-path tools/estrenwind/Cargo.toml
 
 clean:  ## remove everything that was built
-	rm -rf build target tests/target bindings/rust/target tools/estrenwind/target
+	rm -rf build crates/*/out tests/target bindings/rust/target tools/estrenwind/target
 
 .PHONY: help build demo roundings quadrant install uninstall test test-c test-peers test-arithmetic test-rust test-bindings test-command test-install \
 	test-processors zero-rules processors-deps faults-deps farm-deps test-endless test-exhaustive bench bench-deps fmt clean

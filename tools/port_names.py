@@ -1,7 +1,7 @@
 #!/usr/bin/env python3
 """Spells this repository's own definitions and lemmas as the library spells its own: words in snake case, types and facts in camel case.
 
-usage: port_names.py [FOLDER]       the top of a checkout, after /opt/rattle/port/port.py; the default is the current folder
+usage: port_names.py [FOLDER]       the top of a checkout, after the kit's port.py; the default is the current folder
 
 A definition `signBit` becomes `sign_bit`. In a lemma's name a dash stays where it joins the names of two definitions, or a type to a name, and is an underscore
 elsewhere: `encode-magnitude`, `Stands-rest`, but `class_nan`. Where two names would fall together, the lemma gets `_lem`.

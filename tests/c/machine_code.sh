@@ -19,7 +19,8 @@ archive=$library
 code_of() {
     objdump -dr --no-show-raw-insn --disassemble="$1" "$archive" | sed -n "/<$1>:/,\$p"
 }
-# code_from FUNCTION: the same, and of all that it calls. The relocation of a function that the library keeps to itself names its section.
+# code_from FUNCTION: the same, and of all that it calls. The relocation of a function that the library keeps to itself names its section, .text. and
+# the function's name, with unlikely. between where the compiler takes it to be called seldom.
 code_from() {
     names=$1 at=0
     while [ "$at" -lt "$(echo "$names" | wc -l)" ]; do
@@ -27,7 +28,7 @@ code_from() {
         part=$(code_of "$(echo "$names" | sed -n "${at}p")")
         [ -n "$part" ] || return 1
         echo "$part"
-        names=$(printf '%s\n%s\n' "$names" "$(echo "$part" | sed -n 's/.*R_X86_64_PLT32[[:space:]]*\(\.text\.\)*\(.*\)-0x.*/\2/p')" | awk 'NF && !seen[$0]++')
+        names=$(printf '%s\n%s\n' "$names" "$(echo "$part" | sed -n 's/.*R_X86_64_PLT32[[:space:]]*\(\.text\.\(unlikely\.\)*\)*\(.*\)-0x.*/\3/p')" | awk 'NF && !seen[$0]++')
     done
 }
 # The instructions that work on floats: those of the old floating-point unit, and on its later registers all but moves, whole numbers and bits.

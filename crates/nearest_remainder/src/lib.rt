@@ -127,6 +127,7 @@ fn smaller(fraction: u64, exponent: u64, a: u64, b: u64) -> Division
 }
 
 // In units of b's scale.
+#[inline(always)]
 fn at_scale(fraction: u64, exponent: u64, a: u64, b: u64) -> Division
     requires { Magnitudes (format fraction exponent) a b × (b ≤ a) × InWord (format fraction exponent) }
     ensures { Divided (format fraction exponent) a b result.quotient result.rest result.divisor result.scale }
@@ -144,6 +145,7 @@ fn at_scale(fraction: u64, exponent: u64, a: u64, b: u64) -> Division
 }
 
 // Any a and b but those with a's scale two or more below b's.
+#[inline(always)]
 fn divide(fraction: u64, exponent: u64, a: u64, b: u64) -> Division
     requires { Magnitudes (format fraction exponent) a b × (scale_of fraction b ≤ scale_of fraction a + 1) × InWord (format fraction exponent) }
     ensures { Divided (format fraction exponent) a b result.quotient result.rest result.divisor result.scale }
@@ -242,6 +244,7 @@ fn nearest(fraction: u64, exponent: u64, x: u64, y: u64, p: Division) -> Answer
 }
 
 // The same for any x and y that have a remainder: x itself, where its scale is two or more below y's.
+#[inline(always)]
 fn ordinary(fraction: u64, exponent: u64, x: u64, y: u64) -> Answer
     requires { Ordinary (format fraction exponent) x y }
     ensures { Answered (format fraction exponent) x y result.word result.quotient result.refusal }
@@ -259,6 +262,7 @@ fn ordinary(fraction: u64, exponent: u64, x: u64, y: u64) -> Answer
 }
 
 // And for any others: where there is nothing to divide, fmod's answer. `nan` is the default NaN, which each width has as a constant.
+#[inline(always)]
 fn any(fraction: u64, exponent: u64, nan: u64, x: u64, y: u64) -> Answer
     requires { InWord (format fraction exponent) × (19 ≤ fraction) × (fraction ≤ 52) × (x < 2 * sign_bit (format fraction exponent)) × (y < 2 * sign_bit (format fraction exponent)) × (nan ≡ default_nan (format fraction exponent)) }
     ensures { Answered (format fraction exponent) x y result.word result.quotient result.refusal }
