@@ -16,7 +16,7 @@ use Rattle.recipe.specs.Text.{first, second}
 use Rattle.semantics.specs.Value.{Datum, whole, Outcome, done, refused, fits_word, of_whole}
 use borrow.Author.Tests.{ne_eqb}
 use Rattle.semantics.specs.Range.{Range, doubles, wholes, low, high, least, most, is_negative, is_positive}
-use Rattle.semantics.specs.Cause.{Named, of_a, of_b, Cause, cause, operand_of, overflows, first_of, lround_causes, whole_causes, ldexp_causes, double_causes, causes_of, cause_of, operand_in, code_in}
+use Rattle.semantics.specs.Cause.{Named, of_a, of_b, Cause, cause, operand_of, overflows, first_cause, lround_causes, whole_causes, ldexp_causes, double_causes, causes_of, cause_of, operand_in, code_in}
 use Rattle.semantics.specs.Sheet.{no_range}
 use Rattle.semantics.specs.Explain.{explained, why_on}
 use Rattle.explaining.specs.Reasons.{Tells, is_refused}
@@ -24,29 +24,29 @@ use Rattle.explaining.specs.Reasons.{Tells, is_refused}
 -- two facts about the operand i, of which each has its code
 module _ (t : Step) (names : Named) (i c d n : ℕ) (low high : Bool) (l : List Cause) (is : i ≡ operand_of t names) where
   pub tells_low : low ≡ true → Tells t (cause c names n low ∷ cause d names n high ∷ l) i c
-  unfolding first_of
+  unfolding first_cause
   tells_low e = rw e (is, refl)
 
   pub tells_high : low ≡ false → high ≡ true → Tells t (cause c names n low ∷ cause d names n high ∷ l) i d
-  unfolding first_of
+  unfolding first_cause
   tells_high e f = rw (e, f) (is, refl)
 
   pub tells_after : low ≡ false → high ≡ false → (o k : ℕ) → Tells t l o k → Tells t (cause c names n low ∷ cause d names n high ∷ l) o k
-  unfolding first_of
+  unfolding first_cause
   tells_after e f o k h = rw (e, f) h
 
 -- of B
 module _ (t : Step) (c n : ℕ) (holds : Bool) (l : List Cause) where
   pub tells_second : holds ≡ true → Tells t (cause c of_b n holds ∷ l) (second t) c
-  unfolding first_of
+  unfolding first_cause
   tells_second e = rw e (refl, refl)
 
   pub tells_rest : holds ≡ false → (o k : ℕ) → Tells t l o k → Tells t (cause c of_b n holds ∷ l) o k
-  unfolding first_of
+  unfolding first_cause
   tells_rest e o k h = rw e h
 
 pub tells_none : (t : Step) (o k : ℕ) → o ≡ 0 → k ≡ 0 → Tells t [] o k
-unfolding first_of
+unfolding first_cause
 tells_none t o k e f = (e, f)
 
 -- what a rule that tests once refuses
@@ -93,7 +93,7 @@ ldexp-told t l h least most m n o p i k em en eo ep g =
 
 -- the causes of an arm's opcode are the step's
 pub at_opcode : (t : Step) (a b : Range) {k : ℕ} (o c : ℕ) → t.opcode ≡ k → Tells t (causes_of k a b) o c → Tells t (causes_of t.opcode a b) o c
-at_opcode t a b o c e h = (h.0 ∙ ap (λ (n : ℕ). operand_in t (first_of (causes_of n a b))) (sym e), h.1 ∙ ap (λ (n : ℕ). code_in (first_of (causes_of n a b))) (sym e))
+at_opcode t a b o c e h = (h.0 ∙ ap (λ (n : ℕ). operand_in t (first_cause (causes_of n a b))) (sym e), h.1 ∙ ap (λ (n : ℕ). code_in (first_cause (causes_of n a b))) (sym e))
 
 -- what the last arm of the match knows
 abbrev Other : ℕ → Type 0

@@ -2,11 +2,11 @@
 use Rattle.std.specs.Prelude.{◌≡◌, Bool, true, false, List, ℕ}
 use Rattle.recipe.specs.declared.Step.{Step}
 use Rattle.semantics.specs.Value.{Outcome, done, refused}
-use Rattle.semantics.specs.Cause.{Cause, first_of, operand_in, code_in}
+use Rattle.semantics.specs.Cause.{Cause, first_cause, operand_in, code_in}
 
 -- o and c are the operand and the code of the first of the causes l of the step t that holds, 0 where none does
 abbrev pub Tells : Step → List Cause → ℕ → ℕ → Type 0
-Tells t l o c = (o ≡ operand_in t (first_of l)) × (c ≡ code_in (first_of l))
+Tells t l o c = (o ≡ operand_in t (first_cause l)) × (c ≡ code_in (first_cause l))
 
 abbrev pub is_refused : Outcome → Bool
 is_refused (done v) = false

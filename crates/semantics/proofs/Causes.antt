@@ -14,7 +14,7 @@ use Rattle.recipe.specs.declared.Step.{Step}
 use Rattle.semantics.specs.Value.{fits_word}
 use Rattle.semantics.specs.Range.{Range, doubles, Ranged, ranged, low, high, least, most, holds_zero, infinite_end, low_power, high_power, sum_low, sum_high, difference_low, difference_high, product_low, product_high, worked_range, infinite_sum, infinite_difference, infinite_product, range_rule, step_range}
 use Rattle.semantics.specs.Range as range
-use Rattle.semantics.specs.Cause.{Named, of_a, of_b, Cause, cause, Found, none, found, overflows, arithmetic_causes, first_of, causes_of, cause_of}
+use Rattle.semantics.specs.Cause.{Named, of_a, of_b, Cause, cause, Found, none, found, overflows, arithmetic_causes, first_cause, causes_of, cause_of}
 use Rattle.semantics.proofs.Sound.Kept.{both}
 use Rattle.semantics.proofs.Sound.Products.{infinite_products}
 use Rattle.semantics.proofs.Rules.{Unlisted, absent, range_unlisted, by_opcode}
@@ -44,12 +44,12 @@ later d l e (missing q) = missing (still d l e q)
 later d l e (there c f) =
     there c (record { before = d ∷ f.before; after = f.after; parts = ap (λ (m : List Cause). d ∷ m) f.parts; holds = f.holds; quiet = still d f.before e f.quiet })
 
-pub looked : (l : List Cause) → Looked l (first_of l)
-unfolding first_of
+pub looked : (l : List Cause) → Looked l (first_cause l)
+unfolding first_cause
 looked [] = missing nothing
 looked (d ∷ l) = pick d.holds refl (looked l)
   where
-    pick : (t : Bool) → d.holds ≡ t → Looked l (first_of l) → Looked (d ∷ l) (elim t [ true ↦ found d | false ↦ first_of l ])
+    pick : (t : Bool) → d.holds ≡ t → Looked l (first_cause l) → Looked (d ∷ l) (elim t [ true ↦ found d | false ↦ first_cause l ])
     pick true e g = there d (record { before = []; after = l; parts = refl; holds = e; quiet = nothing })
     pick false e g = later d l e g
 
@@ -63,14 +63,14 @@ abbrev pub refusal_of : Ranged → ℕ
 refusal_of (ranged r) = 0
 refusal_of (range.refused number) = number
 
-two : (s u : Bool) (c d n : ℕ) (r : Range) → number_of (first_of (cause c of_a n (not s) ∷ cause d of_a n (not u) ∷ [])) ≡ refusal_of (cond (s && u) (ranged r) (range.refused n))
-unfolding first_of
+two : (s u : Bool) (c d n : ℕ) (r : Range) → number_of (first_cause (cause c of_a n (not s) ∷ cause d of_a n (not u) ∷ [])) ≡ refusal_of (cond (s && u) (ranged r) (range.refused n))
+unfolding first_cause
 two true true c d n r = refl
 two true false c d n r = refl
 two false u c d n r = refl
 
-three : (z l h : Bool) (r : Range) → number_of (first_of (cause 1 of_b 20 z ∷ cause 2 of_a 20 l ∷ cause 3 of_a 20 h ∷ [])) ≡ refusal_of (cond ((l || h) || z) (range.refused 20) (ranged r))
-unfolding first_of
+three : (z l h : Bool) (r : Range) → number_of (first_cause (cause 1 of_b 20 z ∷ cause 2 of_a 20 l ∷ cause 3 of_a 20 h ∷ [])) ≡ refusal_of (cond ((l || h) || z) (range.refused 20) (ranged r))
+unfolding first_cause
 three true true h r = refl
 three true false true r = refl
 three true false false r = refl
@@ -79,8 +79,8 @@ three false false true r = refl
 three false false false r = refl
 
 four : (l h x y : Bool) (r : Range)
-    → number_of (first_of (cause 8 of_a 21 l ∷ cause 9 of_a 21 h ∷ cause 10 of_a 21 x ∷ cause 11 of_a 21 y ∷ [])) ≡ refusal_of (cond (((l || h) || x) || y) (range.refused 21) (ranged r))
-unfolding first_of
+    → number_of (first_cause (cause 8 of_a 21 l ∷ cause 9 of_a 21 h ∷ cause 10 of_a 21 x ∷ cause 11 of_a 21 y ∷ [])) ≡ refusal_of (cond (((l || h) || x) || y) (range.refused 21) (ranged r))
+unfolding first_cause
 four true h x y r = refl
 four false true x y r = refl
 four false false true y r = refl
@@ -89,9 +89,9 @@ four false false false false r = refl
 
 -- two numbers in a row: any of the first four facts is refused with 20, then any of the last two with 21
 six : (l h k m x y : Bool) (r : Range)
-    → number_of (first_of (cause 14 of_a 20 l ∷ cause 15 of_a 20 h ∷ cause 16 of_b 20 k ∷ cause 17 of_b 20 m ∷ cause 18 of_a 21 x ∷ cause 19 of_a 21 y ∷ []))
+    → number_of (first_cause (cause 14 of_a 20 l ∷ cause 15 of_a 20 h ∷ cause 16 of_b 20 k ∷ cause 17 of_b 20 m ∷ cause 18 of_a 21 x ∷ cause 19 of_a 21 y ∷ []))
     ≡ refusal_of (cond ((l || h) || (k || m)) (range.refused 20) (cond (x || y) (range.refused 21) (ranged r)))
-unfolding first_of
+unfolding first_cause
 six true h k m x y r = refl
 six false true k m x y r = refl
 six false false true m x y r = refl
@@ -111,21 +111,21 @@ none_unlisted k a b h =
 
 module _ (p q : ℕ) (a b : Range) where
   abbrev Exact : ℕ → Type 0
-  Exact k = number_of (first_of (causes_of k a b)) ≡ refusal_of (range_rule k p q a b)
+  Exact k = number_of (first_cause (causes_of k a b)) ≡ refusal_of (range_rule k p q a b)
 
   other : (k : ℕ) → Unlisted k → Exact k
-  unfolding first_of
+  unfolding first_cause
   other k h = simp (← range_unlisted k p q a b h, none_unlisted k a b h)
 
   -- the two causes that follow from the answer's ends l and h, where over says that one of them is infinite
   worked_exact : (over : Bool) (l h : ℕ) → over ≡ (is_infinite binary64 l || is_infinite binary64 h)
-      → number_of (first_of (arithmetic_causes a b l h)) ≡ refusal_of (worked_range a b over l h)
+      → number_of (first_cause (arithmetic_causes a b l h)) ≡ refusal_of (worked_range a b over l h)
   worked_exact over l h e =
       six (is_infinite binary64 (low a)) (is_infinite binary64 (high a)) (is_infinite binary64 (low b)) (is_infinite binary64 (high b)) (is_infinite binary64 l) (is_infinite binary64 h) (doubles l h)
       ∙ ap (λ (t : Bool). refusal_of (worked_range a b t l h)) (sym e)
 
   exact : (k : ℕ) → Exact k
-  unfolding range_rule causes_of first_of
+  unfolding range_rule causes_of first_cause
   exact =
       by_opcode Exact refl refl refl refl refl refl refl refl refl refl refl refl
       (two (eqb (lround_refusal binary64 (low a)) 0) (eqb (lround_refusal binary64 (high a)) 0) 4 5 21 _)
@@ -221,10 +221,10 @@ pub turned_down : (t : Step) (a b : Range) (number : ℕ) → step_range t a b �
 unfolding cause_of
 turned_down t a b number e = go (range_numbered t a b) e
   where
-    number_is : (x : Found) → first_of (causes_of t.opcode a b) ≡ x → number_of x ≡ number
+    number_is : (x : Found) → first_cause (causes_of t.opcode a b) ≡ x → number_of x ≡ number
     number_is x f = ap number_of (sym f) ∙ cause_exact t a b ∙ ap refusal_of e
 
-    at : {x : Found} → Looked (causes_of t.opcode a b) x → first_of (causes_of t.opcode a b) ≡ x → 20 ≤ number → number ≤ 22 → Turned t a b number
+    at : {x : Found} → Looked (causes_of t.opcode a b) x → first_cause (causes_of t.opcode a b) ≡ x → 20 ≤ number → number ≤ 22 → Turned t a b number
     at (missing q) f l h = absurd (omega (arith, number_is none f))
     at (there c g) f l h = record { why = c; is = f; first = g; same = number_is (found c) f; coded = code_positive t.opcode a b c g; from_20 = l; to_22 = h }
 

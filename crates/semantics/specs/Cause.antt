@@ -100,13 +100,13 @@ pub data Found : Type 0 where
   none : Found
   found : Cause → Found
 
-unfoldable pub first_of : List Cause → Found
-first_of [] = none
-first_of (c ∷ l) = elim c.holds [ true ↦ found c | false ↦ first_of l ]
+unfoldable pub first_cause : List Cause → Found
+first_cause [] = none
+first_cause (c ∷ l) = elim c.holds [ true ↦ found c | false ↦ first_cause l ]
 
 -- of a step t, a and b being its operands' ranges
 unfoldable pub cause_of : Step → Range → Range → Found
-cause_of t a b = first_of (causes_of t.opcode a b)
+cause_of t a b = first_cause (causes_of t.opcode a b)
 
 -- the step that an operand of t is
 abbrev pub operand_of : Step → Named → ℕ
