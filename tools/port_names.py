@@ -24,7 +24,7 @@ RESERVED = {"record", "data", "where", "let", "in", "elim", "as", "module", "use
 
 # Names that the rule alone would make meet another.
 # first_of is a tactic.
-TABLE = {"firstOf": "first_cause"}
+TABLE = {"firstOf": "first_cause", "first_of": "first_cause"}
 
 
 def read(path):
