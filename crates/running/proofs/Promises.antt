@@ -18,17 +18,14 @@ module _ (frame lent : List ℕ) (r : RunAnswer) (after : List ℕ) where
   abbrev Answers : Run → Type 0
   Answers run = (r ≡ answer_of run) × (after ≡ words_of run lent)
 
-  -- the first part of the contract, and the second
+  -- the second part of the contract, from the first
   pub with_steps : (w : List ℕ) → Answers (run_words w frame (length lent))
-      → Answers (run_words w frame (length lent)) × ((l : List Step) → Holds l w → Answers (run_steps l frame (length lent)) × Keeps l frame lent r after)
-  with_steps w h = (
-    h,
-    λ l g.
-        let e = holds_run l w frame (length lent) g in
-        let a = h.0 ∙ ap answer_of e in
-        let b = h.1 ∙ ap (λ (x : Run). words_of x lent) e in
-        ((a, b), λ rs ws i. rw (a, b) (sheet_sound l g.formed frame lent rs ws i)),
-  )
+      → (l : List Step) → Holds l w → Answers (run_steps l frame (length lent)) × Keeps l frame lent r after
+  with_steps w h l g =
+      let e = holds_run l w frame (length lent) g in
+      let a = h.0 ∙ ap answer_of e in
+      let b = h.1 ∙ ap (λ (x : Run). words_of x lent) e in
+      ((a, b), λ rs ws i. rw (a, b) (sheet_sound l g.formed frame lent rs ws i))
 
-  pub with_text_promise : (t : List ℕ) → Answers (run_of t frame (length lent)) → Answers (run_of t frame (length lent)) × ((l : List Step) → read_text short t ≡ steps l → Keeps l frame lent r after)
-  with_text_promise t h = (h, λ l e rs ws i. rw (h.0, h.1) (text_sound t l e frame lent rs ws i))
+  pub with_text_promise : (t : List ℕ) → Answers (run_of t frame (length lent)) → (l : List Step) → read_text short t ≡ steps l → Keeps l frame lent r after
+  with_text_promise t h l e rs ws i = rw (h.0, h.1) (text_sound t l e frame lent rs ws i)

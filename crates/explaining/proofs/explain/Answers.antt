@@ -14,12 +14,12 @@ use Rattle.explaining.proofs.explain.Goals as goal
 
 -- the steps read fit
 fits : (c : After-struct_known-2-1) → c.read-recipe.result.count ≤ most_steps
-fits c = let g = c.read-recipe in (answer_count c.args.text.now g.result g.new.1.0 g.ensures.1 c.if-recipe-ne0.false).1
+fits c = let g = c.read-recipe in (answer_count c.args.text.now g.result g.new.steps g.ensures.1 c.if-recipe-ne0.false).1
 
 pub returns-then-recipe-ne0 : goal.returns-then-recipe-ne0
 returns-then-recipe-ne0 c =
     let g = c.read-recipe in
-    c.refusal.ensures ∙ ap answer_of (sym (text_refused c.args.text.now g.result g.new.1.0 g.ensures.1 c.if-recipe-ne0.true))
+    c.refusal.ensures ∙ ap answer_of (sym (text_refused c.args.text.now g.result g.new.steps g.ensures.1 c.if-recipe-ne0.true))
 
 pub overflow_mul-size : goal.overflow_mul-size
 overflow_mul-size c = omega (arith, fits (goal.at.overflow_mul-size c).After-struct_known-2-1)
@@ -28,9 +28,9 @@ pub slice_bounds-steps-end : goal.slice_bounds-steps-end
 slice_bounds-steps-end c = omega (arith, fits (goal.at.slice_bounds-steps-end c).After-struct_known-2-1, c.read-recipe.ensures.0)
 
 pub slice_bounds-explain_recipe-end : goal.slice_bounds-explain_recipe-end
-slice_bounds-explain_recipe-end c = let g = c.read-recipe in sym (length-take-le (3 * g.result.count) g.new.1.0 (omega (arith, fits (goal.at.slice_bounds-explain_recipe-end c).After-struct_known-2-1, g.ensures.0)))
+slice_bounds-explain_recipe-end c = let g = c.read-recipe in sym (length-take-le (3 * g.result.count) g.new.steps (omega (arith, fits (goal.at.slice_bounds-explain_recipe-end c).After-struct_known-2-1, g.ensures.0)))
 
 pub returns : goal.returns
 returns c =
     let g = c.read-recipe in
-    c.explain_recipe.ensures.0 ∙ ap answer_of (text_explained c.args.text.now g.result g.new.1.0 g.ensures.1 c.if-recipe-ne0.false g.ensures.0)
+    c.explain_recipe.ensures.value ∙ ap answer_of (text_explained c.args.text.now g.result g.new.steps g.ensures.1 c.if-recipe-ne0.false g.ensures.0)

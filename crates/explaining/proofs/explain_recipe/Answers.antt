@@ -18,7 +18,8 @@ good c = sym c.bad_words.ensures ∙ c.if-bad_words.false
 pub returns-then-bad_words : goal.returns-then-bad_words
 returns-then-bad_words c =
     let w = c.args.steps.now in
-    with_steps _ w (c.refusal.ensures ∙ ap answer_of (sym (explain_bad w (sym c.bad_words.ensures ∙ c.if-bad_words.true))))
+    let p = with_steps _ w (c.refusal.ensures ∙ ap answer_of (sym (explain_bad w (sym c.bad_words.ensures ∙ c.if-bad_words.true)))) in
+    record { value = p.0; value_2 = p.1 }
 
 pub explain_steps-requires : goal.explain_steps-requires
 explain_steps-requires c = let w = words_count _ (good (goal.at.explain_steps-requires c).Else-bad_words) in (w.1, omega (arith, w.2))
@@ -26,4 +27,5 @@ explain_steps-requires c = let w = words_count _ (good (goal.at.explain_steps-re
 pub returns : goal.returns
 returns c =
     let w = c.args.steps.now in
-    with_steps _ w (c.explain_steps.ensures ∙ ap answer_of (sym (explain_reached w (good (goal.at.returns c).Else-bad_words))))
+    let p = with_steps _ w (c.explain_steps.ensures ∙ ap answer_of (sym (explain_reached w (good (goal.at.returns c).Else-bad_words)))) in
+    record { value = p.0; value_2 = p.1 }

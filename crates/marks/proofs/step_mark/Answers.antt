@@ -36,44 +36,34 @@ returns-then-any c =
 
 pub returns-then-any-2 : goal.returns-then-any-2
 returns-then-any-2 c =
-    let e = c in
-    let s = e.args in
+    let s = c.args in
     c.one_integral.ensures
     ∙ rw (c.low-low.ensures, c.high-high.ensures)
     (marked-number s.opcode (seen_range s.r) s.a s.b (not-always (goal.at.returns-then-any-2 c).Else-any) (sym c.any-2.ensures ∙ c.if-any-2.true))
 
 pub returns-then-within : goal.returns-then-within
 returns-then-within c =
-    let e = c in
-    let f = e in
-    let s = f.args in
+    let s = c.args in
+    let w = goal.at.returns-then-within c in
     ap not c.infinite_end.ensures
-    ∙ rw (e.low-low.ensures, e.high-high.ensures)
-    (marked_rounding s.opcode (seen_range s.r) s.a s.b (not-always f) (not-number (goal.at.returns-then-within c).Else-any-2) (sym c.within.ensures ∙ c.if-within.true))
+    ∙ rw (c.low-low.ensures, c.high-high.ensures)
+    (marked_rounding s.opcode (seen_range s.r) s.a s.b (not-always w.Else-any) (not-number w.Else-any-2) (sym c.within.ensures ∙ c.if-within.true))
 
 pub returns-then-within-2 : goal.returns-then-within-2
 returns-then-within-2 c =
-    let d = c in
-    let e = d in
-    let f = e in
-    let s = f.args in
-    marked-first s.opcode (seen_range s.r) s.a s.b (not-always f) (not-number e) (not-rounding (goal.at.returns-then-within-2 c).Else-within) (sym c.within-2.ensures ∙ c.if-within-2.true)
+    let s = c.args in
+    let w = goal.at.returns-then-within-2 c in
+    marked-first s.opcode (seen_range s.r) s.a s.b (not-always w.Else-any) (not-number w.Else-any-2) (not-rounding w.Else-within) (sym c.within-2.ensures ∙ c.if-within-2.true)
 
 pub returns-then-by_both : goal.returns-then-by_both
 returns-then-by_both c =
-    let b = c in
-    let d = b in
-    let e = d in
-    let f = e in
-    let s = f.args in
+    let s = c.args in
+    let w = goal.at.returns-then-by_both c in
     c.all.ensures
-    ∙ marked_both s.opcode (seen_range s.r) s.a s.b (not-always f) (not-number e) (not-rounding d) (not_first (goal.at.returns-then-by_both c).Else-within-2) (sym c.by_both.ensures ∙ c.if-by_both.true)
+    ∙ marked_both s.opcode (seen_range s.r) s.a s.b (not-always w.Else-any) (not-number w.Else-any-2) (not-rounding w.Else-within) (not_first w.Else-within-2) (sym c.by_both.ensures ∙ c.if-by_both.true)
 
 pub returns : goal.returns
 returns c =
-    let b = c in
-    let d = b in
-    let e = d in
-    let f = e in
-    let s = f.args in
-    marked_never s.opcode (seen_range s.r) s.a s.b (not-always f) (not-number e) (not-rounding d) (not_first (goal.at.returns c).Else-within-2) (sym c.by_both.ensures ∙ c.if-by_both.false)
+    let s = c.args in
+    let w = goal.at.returns c in
+    marked_never s.opcode (seen_range s.r) s.a s.b (not-always w.Else-any) (not-number w.Else-any-2) (not-rounding w.Else-within) (not_first w.Else-within-2) (sym c.by_both.ensures ∙ c.if-by_both.false)

@@ -110,4 +110,4 @@ returns-in-66 c =
 pub returns-in_default : goal.returns-in_default
 returns-in_default c =
     let e = c in
-    tells_other (step (goal.at.returns-in_default c).After-most-most2) (a (goal.at.returns-in_default c).After-most-most2) (b (goal.at.returns-in_default c).After-most-most2) _ _ c.no_reason.ensures.0 c.no_reason.ensures.1 c.in_default.rest
+    tells_other (step (goal.at.returns-in_default c).After-most-most2) (a (goal.at.returns-in_default c).After-most-most2) (b (goal.at.returns-in_default c).After-most-most2) _ _ c.no_reason.ensures.0 c.no_reason.ensures.1 c.in_default.in_default-own.rest
