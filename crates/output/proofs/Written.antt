@@ -4,7 +4,7 @@ use mathlib.Core.List.{List, [], ◌∷◌, ◌++◌, append_assoc}
 use Prim.Native.Nat.{ℕ, ◌+◌, ◌≤◌}
 use native.Mathlib.Omega.{arith}
 use lib.ListN.{length, length-append, length-drop, length-set, set, take, drop}
-use lib.Seq.{take_at}
+use lib.Seq.{take_at, length-take-le}
 use borrow.Author.Tests.{eq-eqb}
 use Rattle.hexadecimal.specs.Hex.{digits}
 use Rattle.hexadecimal.proofs.Digits.{length_digits}
@@ -14,6 +14,18 @@ use Rattle.programs.specs.Output.{refusal_line, answer_line}
 use Rattle.programs.specs.Explain.{fields_line, passed_line}
 use Rattle.programs.specs.Stage.{Untouched}
 use Rattle.programs.proofs.Untouched.{untouched_join, untouched_set, untouched_front, untouched_put}
+
+-- ---- the part of the buffer that the next field is written to
+
+module _ (xs a : List ℕ) (h : 19 ≤ length xs) (p : length a ≡ 2) where
+  pub second_part : (n : ℕ) → n ≤ 17 → length (take n (drop 2 (a ++ drop 2 xs))) ≡ n
+  second_part n k = length-take-le n (drop 2 (a ++ drop 2 xs)) (simp (length-drop, length-append) (omega arith))
+
+  pub third_part : (b : List ℕ) → length b ≡ 2 → length (take 2 (drop 4 (put 2 2 (a ++ drop 2 xs) b))) ≡ 2
+  third_part b q =
+      let n1 : length (a ++ drop 2 xs) ≡ length xs = length-append a (drop 2 xs) ∙ simp length-drop (omega arith) in
+      let n2 : length (put 2 2 (a ++ drop 2 xs) b) ≡ length xs = length_put (a ++ drop 2 xs) b 2 2 (omega arith) q ∙ n1 in
+      length-take-le 2 (drop 4 (put 2 2 (a ++ drop 2 xs) b)) (simp length-drop (omega arith))
 
 -- ---- a line of three fields
 

@@ -6,7 +6,7 @@ use mathlib.Core.List.{List, [], ◌∷◌, ◌++◌}
 use mathlib.Core.Logic.{⊎_elim}
 use Prim.Native.Nat.{ℕ, ◌+◌, ◌-◌, ◌≤◌, ◌<◌}
 use native.Mathlib.Omega.{arith}
-use lib.ListN.{length, get_or, take, drop}
+use lib.ListN.{length, get_or, take, drop, length-drop}
 use lib.Seq.{take-append-add, take-append-le, length-take-le}
 use Rattle.recipe.specs.declared.Step.{Step}
 use Rattle.recipe.specs.Answer.{Holds}
@@ -29,6 +29,10 @@ ends_more s from i f g k h m e =
     ⊎_elim (λ (p : k < i). f k h p e) (λ (p : i ≤ k). let q : k ≡ i = omega arith in g (rw q at e)) (lt_or_ge k i)
 
 -- ---- line after line
+
+-- the rest of the output, which the next answer is written to
+pub part_size : (out : List ℕ) (put : ℕ) → length (take (length out - put) (drop put out)) ≡ length out - put
+part_size out put = length-take-le (length out - put) (drop put out) (simp length-drop (omega arith))
 
 -- the first bytes of a part that was written, after what stands in front of it
 put_some : (l ys z : List ℕ) (n j : ℕ) → n ≤ length l → j ≤ length ys → take (n + j) (take n l ++ (ys ++ z)) ≡ take n l ++ take j ys

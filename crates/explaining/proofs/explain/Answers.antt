@@ -8,7 +8,6 @@ use Rattle.recipe.specs.Text.{most_steps}
 use Rattle.recipe.proofs.Laws.{answer_count}
 use Rattle.semantics.specs.Explain.{answer_of}
 use Rattle.explaining.proofs.Calls.{text_refused, text_explained}
-use borrow.Author.Rules.{rules}
 use Rattle.explaining.proofs.explain.Goals.{After-struct_known-2-1}
 use Rattle.explaining.proofs.explain.Goals as goal
 

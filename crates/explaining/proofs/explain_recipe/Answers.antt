@@ -7,7 +7,6 @@ use Rattle.recipe.specs.Packed.{bad_words}
 use Rattle.recipe.proofs.Packed.{words_count}
 use Rattle.semantics.specs.Explain.{answer_of}
 use Rattle.explaining.proofs.Calls.{explain_bad, explain_reached, with_steps}
-use borrow.Author.Rules.{rules}
 use Rattle.explaining.proofs.explain_recipe.Goals.{Else-bad_words}
 use Rattle.explaining.proofs.explain_recipe.Goals as goal
 

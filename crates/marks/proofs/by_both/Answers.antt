@@ -1,5 +1,4 @@
 -- `by_both` meets its contract. Assumes nothing.
-use borrow.Author.Rules.{rules}
 use Rattle.marks.proofs.by_both.Goals as goal
 
 pub returns : goal.returns

@@ -6,7 +6,6 @@ use Rattle.float_format.specs.Format.{binary64}
 use Rattle.float_format.specs.declared.Direction.TheVariants.{TowardZero}
 use Rattle.float_format.proofs.Integers.{integer_beyond, integer_rounded}
 use Rattle.semantics.proofs.Sound.Kept.{valid}
-use borrow.Author.Rules.{rules}
 use Rattle.marks.proofs.is_integral.Goals as goal
 
 pub returns-then-x-ge-INFINITY : goal.returns-then-x-ge-INFINITY

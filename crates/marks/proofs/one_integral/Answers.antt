@@ -3,7 +3,6 @@ use mathlib.Core.Path.{◌≡◌, sym, ◌∙◌}
 use mathlib.Core.Bool.{true, false}
 use Rattle.float_format.specs.Format.{binary64}
 use Rattle.float_format.specs.Number.{below}
-use borrow.Author.Rules.{rules}
 use Rattle.marks.proofs.one_integral.Goals as goal
 
 pub returns-then-double_above : goal.returns-then-double_above

@@ -6,7 +6,6 @@ use Rattle.recipe.specs.Table.{within}
 use Rattle.semantics.specs.Mark.{is_whole}
 use Rattle.ranges.specs.Seen.{seen_range}
 use Rattle.marks.proofs.Rule.{marked_always, marked-number, marked_rounding, marked-first, marked_both, marked_never}
-use borrow.Author.Rules.{rules}
 use Rattle.marks.proofs.step_mark.Goals.{Else-any, Else-any-2, Else-within, Else-within-2}
 use Rattle.marks.proofs.step_mark.Goals as goal
 

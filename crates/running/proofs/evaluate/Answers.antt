@@ -1,17 +1,16 @@
 -- `evaluate` meets its contract. The first loop's invariant is `Running.Going`: the run comes to what is left of it after the values so far. The
 -- second loop's: the words so far are those of the first j values, and the rest as lent. The measures are the steps left. Assumes nothing.
 use mathlib.Core.Path.{◌≡◌, refl}
-use mathlib.Core.List.{◌++◌, map}
-use mathlib.Core.Logic.{inl, inr, ⊎_elim}
-use Prim.Native.Nat.{◌-◌, ◌≤◌}
+use mathlib.Core.Logic.{inl, inr}
+use Prim.Native.Nat.{◌-◌}
 use native.Mathlib.Omega.{arith}
 use lib.Ieee.{nan}
-use lib.ListN.{length, take, drop, get_or}
+use lib.ListN.{length, get_or}
 use Rattle.values.specs.declared.Value.TheVariants.{Double}
 use Rattle.semantics.proofs.Lists.{copy_more, copied_length}
 use Rattle.recipe.specs.Table.{row_of, is_input}
 use Rattle.frame.proofs.Reading.{next_is, word_at}
-use Rattle.running.proofs.Running.{word, Going, going_start, going_more, going_refused, going_done, fetch_real, fetch_end, written}
+use Rattle.running.proofs.Running.{word, going_start, going_more, going_refused, going_done, fetch_real, fetch_end, written}
 use borrow.Author.Rules.{rules}
 use Rattle.running.proofs.evaluate.Goals.{Joined-k-lt16, else-k-lt16, else-n-gt0, then-k-lt16, then-n-gt0}
 use Rattle.running.proofs.evaluate.Goals as goal

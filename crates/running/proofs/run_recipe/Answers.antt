@@ -8,7 +8,6 @@ use Rattle.recipe.specs.Packed.{bad_words}
 use Rattle.recipe.proofs.Packed.{words_count}
 use Rattle.running.proofs.Calls.{words_bad, run_crowded, run_short, run_length, run_malformed, run_outside, run_reached}
 use Rattle.running.proofs.Promises.{with_steps}
-use borrow.Author.Rules.{rules}
 use Rattle.running.proofs.run_recipe.Goals.{Else-bad_words}
 use Rattle.running.proofs.run_recipe.Goals as goal
 

@@ -6,7 +6,6 @@ use Rattle.recipe.specs.Table.{kind_number}
 use Rattle.semantics.specs.Range.{kind_of}
 use Rattle.ranges.specs.Seen.{seen_range}
 use Rattle.sheet_line.proofs.Line.{mark_small}
-use borrow.Author.Rules.{rules}
 use Rattle.sheet_line.proofs.line_head.Goals as goal
 
 pub overflow_add-result-2 : goal.overflow_add-result-2

@@ -1,13 +1,9 @@
 -- `write_line` meets its contract: each part written keeps the length, and `line_written` says what they make. Assumes nothing.
-use mathlib.Core.Path.{◌∙◌, sym, ap}
-use Prim.Native.Nat.{ℕ}
+use mathlib.Core.Path.{sym}
 use native.Mathlib.Omega.{arith}
-use lib.ListN.{length-set}
 use lib.Seq.{length-take-le}
-use Rattle.hexadecimal.specs.Hex.{digits}
 use Rattle.ranges.specs.Seen.{seen_range}
 use Rattle.sheet_line.proofs.Line.{line_written}
-use borrow.Author.Rules.{rules}
 use Rattle.sheet_line.proofs.write_line.Goals as goal
 
 pub slice_bounds-write-end-2 : goal.slice_bounds-write-end-2
@@ -15,10 +11,8 @@ slice_bounds-write-end-2 c = let s = c in sym (length-take-le 6 s.args.line.now 
 
 pub returns : goal.returns
 returns c =
-    let h1 = c.write.ensures in
-    let h2 = c.write-2.ensures in
-    let h3 = c.write-3.ensures in
+    let n = length-take-le 6 c.args.line.now (omega (arith, c.requires.0)) in
     line_written c.args.step c.args.mark (seen_range c.args.r) c.args.line.now c.write.new.out c.write-2.new.out c.write-3.new.out c.requires.0
-    ?
-    ?
-    ?
+    (cc n)
+    (cc)
+    (cc)

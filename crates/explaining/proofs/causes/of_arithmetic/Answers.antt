@@ -3,7 +3,6 @@ use mathlib.Core.List.{[], ◌∷◌}
 use mathlib.Core.Path.{refl}
 use Rattle.semantics.specs.Cause.{of_a, of_b, cause}
 use Rattle.explaining.proofs.Reasons.{tells_none}
-use borrow.Author.Rules.{rules}
 use Rattle.explaining.proofs.causes.of_arithmetic.Goals as goal
 
 pub returns : goal.returns

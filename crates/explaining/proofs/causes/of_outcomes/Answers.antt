@@ -3,7 +3,6 @@ use mathlib.Core.List.{[]}
 use mathlib.Core.Path.{refl, sym}
 use Rattle.semantics.specs.Cause.{of_a}
 use Rattle.explaining.proofs.Reasons.{tells_none}
-use borrow.Author.Rules.{rules}
 use Rattle.explaining.proofs.causes.of_outcomes.Goals as goal
 
 pub returns : goal.returns

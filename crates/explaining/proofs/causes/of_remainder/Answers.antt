@@ -3,7 +3,6 @@ use mathlib.Core.List.{[]}
 use mathlib.Core.Path.{refl, sym, ◌∙◌}
 use Rattle.semantics.specs.Cause.{of_a}
 use Rattle.explaining.proofs.Reasons.{tells_second, tells_rest, tells_none}
-use borrow.Author.Rules.{rules}
 use Rattle.explaining.proofs.causes.of_remainder.Goals as goal
 
 pub returns-then-holds_zero : goal.returns-then-holds_zero

@@ -1,0 +1,14 @@
+-- `answer_lines` meets its contract. The invariant is `Going`: the lines from the start up to i are answered in the first bytes of the
+-- output. The measure is what is left of the bytes. Assumes nothing.
+use mathlib.Core.Path.{◌≡◌, ◌∙◌}
+use Prim.Native.Nat.{◌-◌, ◌<◌}
+use native.Mathlib.Omega.{arith}
+use lib.ListN.{length}
+use Rattle.stream.proofs.Answering.{Going, going_none, going_more, going_rest, going_full}
+use Rattle.stream.proofs.frames.answer_lines.Given as goal
+
+abbrev pub invariant-loop-out : goal.invariant-loop-out
+invariant-loop-out l = Going l.steps l.s l.from l.initial.out l.out l.i l.put
+
+abbrev pub decreases-loop-out : goal.decreases-loop-out
+decreases-loop-out l = length l.s - l.i
