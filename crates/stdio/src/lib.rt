@@ -4,7 +4,7 @@
 // What a call reads or writes no contract can say; these say which bytes of the buffer it may speak of.
 #![tactic(auto)]
 
-ghost use Rattle.std.specs.Prelude.{◌≤◌, length};
+ghost use Rattle.std.specs.Prelude.{◌≡◌, ◌≤◌, length, take};
 
 use std::env::FillError;
 use std::fs::OpenOptions;
@@ -38,7 +38,7 @@ fn is_to_be_repeated(rt: &HostRuntime, error: &io::Error) -> bool {
 // Reads once from standard input. A proved loop ends, and nothing says that signals do: the turns are counted down from a number that no run
 // uses up.
 pub fn read(rt: &HostRuntime, buf: &mut [u8]) -> Got
-    ensures { result.count ≤ length buf.new }
+    ensures { (result.count ≤ length buf.new) × (result.count ≡ length (take result.count buf.new)) }
 {
     let mut turns = u64::MAX;
     while turns > 0 {
@@ -68,7 +68,7 @@ pub fn read(rt: &HostRuntime, buf: &mut [u8]) -> Got
 
 // Reads from standard input until the buffer is full or the input ends.
 pub fn read_full(rt: &HostRuntime, buf: &mut [u8]) -> Got
-    ensures { result.count ≤ length buf.new }
+    ensures { (result.count ≤ length buf.new) × (result.count ≡ length (take result.count buf.new)) }
 {
     let mut done: usize = 0;
     while done < buf.len() {

@@ -8,7 +8,6 @@ use lib.Seq.{length-take-le}
 use Rattle.recipe.specs.Text.{most_steps}
 use Rattle.recipe.proofs.Laws.{answer_count}
 use Rattle.sheets.proofs.SheetCalls.{text_refused, text_sheet}
-use borrow.Author.Rules.{rules}
 use Rattle.sheets.proofs.sheet.Goals.{Else-recipe-ne0}
 use Rattle.sheets.proofs.sheet.Goals as goal
 

@@ -7,7 +7,6 @@ use lib.ListN.{length}
 use Rattle.recipe.specs.Packed.{bad_words}
 use Rattle.recipe.proofs.Packed.{words_count}
 use Rattle.sheets.proofs.SheetCalls.{sheet_bad, sheet_short, sheet_reached, with_steps}
-use borrow.Author.Rules.{rules}
 use Rattle.sheets.proofs.sheet_recipe.Goals.{Else-bad_words}
 use Rattle.sheets.proofs.sheet_recipe.Goals as goal
 

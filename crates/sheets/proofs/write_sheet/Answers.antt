@@ -3,21 +3,19 @@
 -- rest as lent. The measures are the steps left. Assumes nothing.
 use mathlib.Core.Path.{◌≡◌, refl, ◌∙◌}
 use mathlib.Core.List.{map}
-use Prim.Native.Nat.{◌+◌, ◌-◌, ◌*◌, ◌≤◌}
+use Prim.Native.Nat.{◌+◌, ◌-◌, ◌*◌}
 use native.Mathlib.Omega.{arith}
 use lib.Ieee.{nan}
 use lib.ListN.{length, take, length-map}
 use lib.Seq.{length-take-le}
-use borrow.Author.Rules.{rules}
-use Rattle.semantics.specs.Mark.{no_mark}
 use Rattle.semantics.specs.Sheet.{passed}
 use Rattle.semantics.specs.Shown.{marked, sheet_line}
 use Rattle.ranges.specs.declared.Range.TheVariants.{Doubles}
 use Rattle.ranges.specs.Seen.{seen_range}
 use Rattle.ranges.specs.Carried.{stopped}
-use Rattle.ranges.proofs.Folding.{Walked, walked_start, walked_more, walked_refused, walked_done, fetch_real}
-use Rattle.sheets.proofs.Showing.{lines, lines_none, lines_length, lines_next, all_lines}
-use Rattle.sheets.proofs.Marking.{Marked, marked_start, marked_more, mark_at, marks_done}
+use Rattle.ranges.proofs.Folding.{walked_start, walked_more, walked_refused, walked_done, fetch_real}
+use Rattle.sheets.proofs.Showing.{lines_none, lines_length, lines_next, all_lines}
+use Rattle.sheets.proofs.Marking.{marked_start, marked_more, mark_at, marks_done}
 use Rattle.sheets.proofs.write_sheet.Goals as goal
 
 pub loop-i-init : goal.loop-i-init

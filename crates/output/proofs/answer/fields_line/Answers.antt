@@ -4,7 +4,6 @@ use Prim.Native.Nat.{ℕ}
 use native.Mathlib.Omega.{arith}
 use lib.ListN.{length, take}
 use lib.Seq.{length-take-le}
-use borrow.Author.Rules.{rules}
 use Rattle.hexadecimal.specs.Hex.{digits}
 use Rattle.hexadecimal.proofs.Digits.{length_digits}
 use Rattle.output.proofs.Written.{second_part, third_part, fields_written, fields_rest}

@@ -1,6 +1,5 @@
 -- `frame_line` meets its contract, by the line's length: words that hold a recipe's steps are run as these steps. Assumes nothing.
 use mathlib.Core.Path.{◌∙◌, sym, ap}
-use borrow.Author.Rules.{rules}
 use Rattle.programs.specs.Output.{answer_line}
 use Rattle.programs.proofs.Answers.{frame-long, frame-short}
 use Rattle.output.proofs.answer.frame_line.Goals as goal

@@ -1,7 +1,6 @@
 -- `refusal_line` meets its contract. Assumes nothing.
 use mathlib.Core.Path.{◌∙◌}
 use Rattle.output.proofs.Written.{refusal_is}
-use borrow.Author.Rules.{rules}
 use Rattle.output.proofs.answer.refusal_line.Goals as goal
 
 pub returns : goal.returns

@@ -7,7 +7,6 @@ use lib.Seq.{length-take-le}
 use Rattle.hexadecimal.specs.Hex.{digits}
 use Rattle.hexadecimal.proofs.Digits.{length_digits}
 use Rattle.output.proofs.Written.{passed_written, passed_rest}
-use borrow.Author.Rules.{rules}
 use Rattle.output.proofs.explain.passed_line.Goals as goal
 
 pub slice_bounds-write-end-2 : goal.slice_bounds-write-end-2

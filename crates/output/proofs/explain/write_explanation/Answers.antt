@@ -1,7 +1,6 @@
 -- `write_explanation` meets its contract, by the explain call's answer. Assumes nothing.
 use mathlib.Core.Path.{◌∙◌}
 use Rattle.programs.proofs.Explanations.{line_refused, line_named, line_passed}
-use borrow.Author.Rules.{rules}
 use Rattle.output.proofs.explain.write_explanation.Goals as goal
 
 pub returns-then-a-ne0 : goal.returns-then-a-ne0

@@ -3,7 +3,6 @@ use mathlib.Core.Path.{ap, ◌∙◌}
 use native.Mathlib.Omega.{arith}
 use lib.ListN.{length, drop}
 use Rattle.output.proofs.Sheets.{sheet_refused, sheet_few, sheet_written, sheet_unwritten, sheet_rest}
-use borrow.Author.Rules.{rules}
 use Rattle.output.proofs.sheet.write_sheet.Goals as goal
 
 pub returns-then-a-ne0 : goal.returns-then-a-ne0
