@@ -1,7 +1,6 @@
 -- `feed` meets its contract, by the stage. Assumes nothing.
 use mathlib.Core.Path.{refl}
 use native.Mathlib.Omega.{arith}
-use borrow.Author.Rules.{rules}
 use Rattle.programs.specs.Output.{looked_at}
 use Rattle.programs.proofs.Untouched.{untouched_later}
 use Rattle.programs.proofs.Stages.{stands_count, stands_steps, fed_at_recipe, fed_at_frames, fed_at_done}

@@ -2,7 +2,6 @@
 use mathlib.Core.Path.{sym}
 use Prim.Native.Nat.{◌*◌}
 use lib.Seq.{length-take-le}
-use borrow.Author.Rules.{rules}
 use Rattle.programs.proofs.Stages.{fed_frames}
 use Rattle.stream.proofs.feed_frames.Goals as goal
 

@@ -2,7 +2,6 @@
 use mathlib.Core.Path.{refl}
 use native.Mathlib.Omega.{arith}
 use lib.ListN.{take}
-use borrow.Author.Rules.{rules}
 use Rattle.programs.specs.Output.{looked_at}
 use Rattle.programs.proofs.Untouched.{untouched_later}
 use Rattle.programs.proofs.Stages.{fed_missing, fed_endless, fed_refused, fed_opened}

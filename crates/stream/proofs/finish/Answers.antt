@@ -3,7 +3,6 @@ use mathlib.Core.Path.{◌≡◌, refl, sym}
 use Prim.Native.Nat.{◌*◌}
 use native.Mathlib.Omega.{arith}
 use lib.Seq.{length-take-le}
-use borrow.Author.Rules.{rules}
 use Rattle.programs.proofs.Stages.{stands_count, stands_steps, finished_recipe, finished_between, finished_line, finished_done}
 use Rattle.stream.proofs.finish.Goals as goal
 

@@ -4,7 +4,6 @@ use mathlib.Core.List.{[]}
 use native.Mathlib.Omega.{arith}
 use lib.ListN.{take}
 use lib.Seq.{length-take-le}
-use borrow.Author.Rules.{rules}
 use Rattle.programs.proofs.Stages.{read_refused, read_passed}
 use Rattle.programs.proofs.Words.{words_untouched}
 use Rattle.stream.proofs.read_recipe.Goals as goal

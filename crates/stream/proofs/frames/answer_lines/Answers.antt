@@ -5,7 +5,7 @@ use Prim.Native.Nat.{◌-◌, ◌<◌}
 use native.Mathlib.Omega.{arith}
 use lib.ListN.{length}
 use Rattle.hexadecimal.proofs.Parts.{length_put}
-use Rattle.stream.proofs.Answering.{part_size, Going, going_none, going_more, going_rest, going_full}
+use Rattle.stream.proofs.Answering.{part_size, going_none, going_more, going_rest, going_full}
 use Rattle.stream.proofs.frames.answer_lines.Goals as goal
 
 pub loop-out-init : goal.loop-out-init

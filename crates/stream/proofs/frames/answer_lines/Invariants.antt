@@ -1,10 +1,8 @@
 -- `answer_lines` meets its contract. The invariant is `Going`: the lines from the start up to i are answered in the first bytes of the
 -- output. The measure is what is left of the bytes. Assumes nothing.
-use mathlib.Core.Path.{◌≡◌, ◌∙◌}
-use Prim.Native.Nat.{◌-◌, ◌<◌}
-use native.Mathlib.Omega.{arith}
+use Prim.Native.Nat.{◌-◌}
 use lib.ListN.{length}
-use Rattle.stream.proofs.Answering.{Going, going_none, going_more, going_rest, going_full}
+use Rattle.stream.proofs.Answering.{Going}
 use Rattle.stream.proofs.frames.answer_lines.Given as goal
 
 abbrev pub invariant-loop-out : goal.invariant-loop-out

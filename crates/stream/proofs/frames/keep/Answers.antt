@@ -1,12 +1,10 @@
 -- `keep` meets its contract. The invariant: the line with the first i bytes of the part is kept. The measure is what is left of the part.
 -- Assumes nothing.
-use mathlib.Core.Path.{◌≡◌, refl, ◌∙◌}
-use mathlib.Core.List.{List, ◌++◌}
-use Prim.Native.Nat.{ℕ, ◌-◌, ◌≤◌}
+use mathlib.Core.Path.{refl, ◌∙◌}
+use Prim.Native.Nat.{◌≤◌}
 use native.Mathlib.Omega.{arith}
-use lib.ListN.{length, take, length-set}
+use lib.ListN.{length, length-set}
 use lib.Seq.{drop-set-lt}
-use Rattle.programs.specs.Stage.{Kept, Untouched}
 use Rattle.stream.proofs.Keeping.{kept_start, kept_more, kept_over, kept_done}
 use Rattle.stream.proofs.frames.keep.Goals as goal
 

@@ -2,7 +2,6 @@
 use mathlib.Core.Path.{◌∙◌, sym, ap}
 use native.Mathlib.Omega.{arith}
 use lib.Seq.{length-take-le}
-use borrow.Author.Rules.{rules}
 use Rattle.programs.specs.Output.{frame_line}
 use Rattle.programs.proofs.Answers.{frame-long}
 use Rattle.stream.proofs.frames.kept_line.Goals as goal

@@ -1,8 +1,5 @@
 -- `line_end` meets its contract. The invariant: no byte from the start up to i is a line feed. The measure is what is left. Assumes nothing.
-use mathlib.Core.Path.{◌≡◌}
-use Prim.Native.Nat.{ℕ, ◌-◌, ◌≤◌, ◌<◌}
 use native.Mathlib.Omega.{arith}
-use lib.ListN.{length, get_or}
 use Rattle.stream.proofs.Answering.{ends_more}
 use Rattle.stream.proofs.frames.line_end.Goals as goal
 

@@ -2,7 +2,6 @@
 use mathlib.Core.Path.{◌≡◌, refl}
 use mathlib.Core.List.{[]}
 use native.Mathlib.Omega.{arith}
-use borrow.Author.Rules.{rules}
 use Rattle.programs.proofs.FrameLines.{kept_none, kept_nothing, handled_full, handled_rest}
 use Rattle.stream.proofs.frames.take_lines.Goals as goal
 

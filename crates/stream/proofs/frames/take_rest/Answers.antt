@@ -4,7 +4,6 @@ use mathlib.Core.List.{◌++◌}
 use Prim.Native.Nat.{◌<◌}
 use native.Mathlib.Omega.{arith}
 use lib.ListN.{length}
-use borrow.Author.Rules.{rules}
 use Rattle.programs.specs.Stage.{between}
 use Rattle.programs.proofs.FrameLines.{handled_part, handled_line}
 use Rattle.stream.proofs.frames.take_rest.Goals as goal

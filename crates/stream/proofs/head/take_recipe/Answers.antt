@@ -1,11 +1,9 @@
 -- `take_recipe` meets its contract. The invariant is `Taken`: what stands in the buffer is the recipe's text so far. The measure is what is
 -- left of the chunk. Assumes nothing.
 use mathlib.Core.Path.{◌∙◌}
-use mathlib.Core.Logic.{⊎_elim}
-use Prim.Native.Nat.{◌-◌}
 use native.Mathlib.Omega.{arith}
-use lib.ListN.{length, get_or, take}
-use Rattle.stream.proofs.Taking.{Taken, taken_none, taken_endless, taken_empty, taken_more, last_none, last_at, not_feed, not_after_feed}
+use lib.ListN.{get_or, take}
+use Rattle.stream.proofs.Taking.{taken_none, taken_endless, taken_empty, taken_more, last_none, last_at, not_feed, not_after_feed}
 use Rattle.stream.proofs.head.take_recipe.Goals.{else-b-eq10, else-n-gt0, then-b-eq10+else-last-eq10, then-n-gt0}
 use Rattle.stream.proofs.head.take_recipe.Goals as goal
 

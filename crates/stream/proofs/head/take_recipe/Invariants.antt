@@ -1,11 +1,8 @@
 -- `take_recipe` meets its contract. The invariant is `Taken`: what stands in the buffer is the recipe's text so far. The measure is what is
 -- left of the chunk. Assumes nothing.
-use mathlib.Core.Path.{◌∙◌}
-use mathlib.Core.Logic.{⊎_elim}
 use Prim.Native.Nat.{◌-◌}
-use native.Mathlib.Omega.{arith}
-use lib.ListN.{length, get_or, take}
-use Rattle.stream.proofs.Taking.{Taken, taken_none, taken_endless, taken_empty, taken_more, last_none, last_at, not_feed, not_after_feed}
+use lib.ListN.{length, take}
+use Rattle.stream.proofs.Taking.{Taken}
 use Rattle.stream.proofs.head.take_recipe.Given as goal
 
 abbrev pub invariant-loop-i : goal.invariant-loop-i
