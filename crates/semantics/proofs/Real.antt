@@ -3,7 +3,7 @@
 use mathlib.Core.Path.{◌≡◌, refl, sym}
 use mathlib.Core.Bool.{Bool, true, false, ◌||◌, cond}
 use mathlib.Core.List.{List, [], ◌∷◌, ◌++◌}
-use Prim.Native.Nat.{ℕ, suc, ◌+◌, ◌^◌, ◌≤◌, ◌<◌}
+use Prim.Native.Nat.{ℕ, suc, ◌^◌, ◌≤◌, ◌<◌}
 use native.Mathlib.Omega.{arith}
 use lib.Dec.{eqb, leb}
 use lib.IntN.{nat_abs, ◌+ℤ◌, ◌-ℤ◌}
@@ -23,7 +23,6 @@ use Rattle.recipe.specs.Table.{row_of}
 use Rattle.recipe.specs.Text.{most_steps, first, second, bad_range, double_above}
 use Rattle.recipe.specs.Answer.{Formed}
 use Rattle.semantics.specs.Value.{Datum, double, whole, as_double, as_whole, Outcome, done, refused, fits_word, worked, rule_of, step_value}
-use Rattle.semantics.specs.Value as value
 use Rattle.semantics.specs.Frame.{words, outside, read_frame}
 use Rattle.semantics.specs.Frame as frame
 use Rattle.semantics.specs.Run.{completed, no_value, step_on, on_outcome, run_from}

@@ -1,11 +1,10 @@
 -- `run_lines` meets its contract: a text that is refused is so by the reader, and of any other the words read answer the lines. Assumes nothing.
 use mathlib.Core.Path.{◌≡◌, refl, sym}
-use Prim.Native.Nat.{◌*◌, ◌≤◌}
+use Prim.Native.Nat.{◌*◌}
 use native.Mathlib.Omega.{arith}
 use lib.ListN.{length}
 use lib.Seq.{length-take-le}
 use borrow.Author.Rules.{rules}
-use Rattle.recipe.specs.Text.{most_steps}
 use Rattle.recipe.proofs.Laws.{answer_count}
 use Rattle.programs.specs.Batch.{batch_of}
 use Rattle.batch.proofs.Calls.{text_refused, text_short, text_lines, lines_answered}

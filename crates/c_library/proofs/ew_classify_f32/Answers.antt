@@ -1,7 +1,6 @@
 -- `ew_classify_f32` meets its contract. Assumes nothing.
 use mathlib.Core.Path.{ap, ◌∙◌}
 use Rattle.float_format.specs.Format.{class_number}
-use borrow.Author.Rules.{rules}
 use Rattle.c_library.proofs.ew_classify_f32.Goals as goal
 
 pub returns : goal.returns

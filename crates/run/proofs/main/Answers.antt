@@ -1,5 +1,5 @@
 -- The course goes on: `start` begins it, `feed` takes it up to the place that it answers, and `read` begins the next chunk where the present one is
--- used up.
+-- used up. Assumes nothing.
 use Rattle.std.proofs.Common.{rules, arith, ◌≡◌, length, take, length-take-le}
 use Rattle.programs.proofs.Chunks.{followed_stands, followed_start, followed_read, followed_feed}
 use Rattle.run.proofs.main.Goals as goal

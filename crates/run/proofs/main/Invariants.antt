@@ -1,5 +1,5 @@
 -- The loop follows a course: the chunk is fed up to the place, with what `feed` put out handed to `write`, and it is used up before the next one
--- is read. The buffers and the words keep their lengths. The measure is the turns left.
+-- is read. The buffers and the words keep their lengths. The measure is the turns left. Assumes nothing.
 use Rattle.std.proofs.Common.{◌≡◌, ◌*◌, ◌≤◌, length, take}
 use Rattle.recipe.specs.Text.{most_steps}
 use Rattle.programs.specs.Output.{looked_at}

@@ -3,7 +3,6 @@ use mathlib.Core.Path.{sym, ap}
 use Rattle.ranges.specs.declared.Range.{Range}
 use Rattle.semantics.specs.Range.{high}
 use Rattle.ranges.specs.Seen.{seen_range}
-use borrow.Author.Rules.{rules}
 use Rattle.ranges.proofs.Range.high.Goals as goal
 
 pub float_to_bits-result : goal.float_to_bits-result

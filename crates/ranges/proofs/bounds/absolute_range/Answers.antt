@@ -2,7 +2,6 @@
 use mathlib.Core.Path.{◌≡◌, sym, ◌∙◌}
 use mathlib.Core.Bool.{true, false}
 use Rattle.semantics.specs.Range.{is_negative, is_positive}
-use borrow.Author.Rules.{rules}
 use Rattle.ranges.proofs.bounds.absolute_range.Goals as goal
 
 pub returns-then-is_positive : goal.returns-then-is_positive

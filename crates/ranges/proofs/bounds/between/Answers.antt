@@ -1,7 +1,6 @@
 -- `between` meets its contract. Assumes nothing.
 use mathlib.Core.Path.{ap}
 use Rattle.semantics.specs.Range.{ranged}
-use borrow.Author.Rules.{rules}
 use Rattle.ranges.proofs.bounds.between.Goals as goal
 
 pub returns-in-Refused : goal.returns-in-Refused

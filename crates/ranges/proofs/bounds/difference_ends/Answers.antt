@@ -1,5 +1,4 @@
 -- `difference_ends` meets its contract. Assumes nothing.
-use borrow.Author.Rules.{rules}
 use Rattle.ranges.proofs.bounds.difference_ends.Goals as goal
 
 pub returns : goal.returns

@@ -1,5 +1,4 @@
 -- `doubles_of` meets its contract. Assumes nothing.
-use borrow.Author.Rules.{rules}
 use Rattle.ranges.proofs.bounds.doubles_of.Goals as goal
 
 pub returns : goal.returns

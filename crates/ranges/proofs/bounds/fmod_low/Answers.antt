@@ -2,7 +2,6 @@
 use mathlib.Core.Path.{◌≡◌, sym, ◌∙◌}
 use mathlib.Core.Bool.{true, false}
 use Rattle.semantics.specs.Range.{is_negative}
-use borrow.Author.Rules.{rules}
 use Rattle.ranges.proofs.bounds.fmod_low.Goals as goal
 
 pub returns-then-is_negative : goal.returns-then-is_negative

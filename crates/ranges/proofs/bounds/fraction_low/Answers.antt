@@ -2,7 +2,6 @@
 use mathlib.Core.Path.{◌≡◌, sym, ◌∙◌}
 use mathlib.Core.Bool.{true, false}
 use Rattle.semantics.specs.Range.{is_negative}
-use borrow.Author.Rules.{rules}
 use Rattle.ranges.proofs.bounds.fraction_low.Goals as goal
 
 pub returns-then-double_above : goal.returns-then-double_above

@@ -1,5 +1,4 @@
 -- `greatest` meets its contract. Assumes nothing.
-use borrow.Author.Rules.{rules}
 use Rattle.ranges.proofs.bounds.greatest.Goals as goal
 
 pub returns : goal.returns

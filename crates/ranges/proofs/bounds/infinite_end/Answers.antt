@@ -1,5 +1,4 @@
 -- `infinite_end` meets its contract. Assumes nothing.
-use borrow.Author.Rules.{rules}
 use Rattle.ranges.proofs.bounds.infinite_end.Goals as goal
 
 pub returns : goal.returns

@@ -1,5 +1,4 @@
 -- `no_remainder` meets its contract. Assumes nothing.
-use borrow.Author.Rules.{rules}
 use Rattle.ranges.proofs.bounds.no_remainder.Goals as goal
 
 pub returns : goal.returns

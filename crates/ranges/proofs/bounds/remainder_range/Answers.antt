@@ -2,7 +2,6 @@
 use mathlib.Core.Path.{sym, ◌∙◌}
 use Rattle.semantics.specs.Range.{doubles}
 use Rattle.ranges.proofs.Ends.{remainder_refused, remainder-ranged}
-use borrow.Author.Rules.{rules}
 use Rattle.ranges.proofs.bounds.remainder_range.Goals as goal
 
 pub returns-then-no_remainder : goal.returns-then-no_remainder

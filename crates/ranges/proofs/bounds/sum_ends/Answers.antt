@@ -1,5 +1,4 @@
 -- `sum_ends` meets its contract. Assumes nothing.
-use borrow.Author.Rules.{rules}
 use Rattle.ranges.proofs.bounds.sum_ends.Goals as goal
 
 pub returns : goal.returns

@@ -4,7 +4,6 @@ use mathlib.Core.Bool.{Bool, ◌||◌}
 use Prim.Native.Nat.{ℕ}
 use Rattle.semantics.specs.Range.{Range, doubles, infinite_end}
 use Rattle.ranges.proofs.Ends.{worked_infinite, worked_over, worked-ranged}
-use borrow.Author.Rules.{rules}
 use Rattle.ranges.proofs.bounds.worked_range.Goals.{After-any}
 use Rattle.ranges.proofs.bounds.worked_range.Goals as goal
 
