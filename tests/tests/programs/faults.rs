@@ -2,8 +2,8 @@
 //! stands, no other byte is written, and one line to standard error says that something is missing,
 //! and why.
 //!
-//! The reference's own programs are not held to this. The exit status is not looked at, since the
-//! language gives a program none; but no fault may end one by a signal.
+//! The reference's own programs are not held to this. The exit status is not looked at, since
+//! it is 0 whatever happens; but no fault may end one by a signal.
 
 mod arguments;
 mod injected;
