@@ -5,39 +5,42 @@ use Prim.Native.Nat.{ℕ, ◌*◌, ◌-◌, ◌≤◌, ◌<◌}
 use native.Mathlib.Omega.{arith}
 use lib.ListN.{length, take, drop, take-append-drop}
 use lib.Seq.{length-take-le}
-use Rattle.recipe.specs.declared.Reading.{Reading}
+use Rattle.std.specs.Prelude.{Ok, Err}
+use Rattle.recipe.specs.declared.Refusal.{Refusal}
+use Rattle.recipe.specs.Fault as fault
 use Rattle.recipe.specs.Text.{short, most_steps, read_text}
 use Rattle.recipe.specs.Packed.{steps_in}
 use Rattle.recipe.specs.Answer.{Says}
-use Rattle.recipe.proofs.Laws.{answer_steps, answer_count, answer_holds, answer_refused}
-use Rattle.programs.specs.declared.Lines.{Lines}
+use Rattle.reader.specs.Checks.{reading_of}
+use Rattle.reader.proofs.Laws.{read_steps, read_count, read_holds, read_refused}
+use Rattle.programs.specs.declared.Progress.{Progress}
 use Rattle.programs.specs.declared.LinesAnswer.{LinesAnswer}
 use Rattle.programs.specs.Stage.{Answered, Untouched}
 use Rattle.programs.specs.Batch.{Batch, answered, refused, batch_steps, batch_of, answer_of, bytes_of}
 use Rattle.programs.proofs.Batches.{batch_short, batch_refused, batch_read}
 
-module _ (t s : List ℕ) (room : ℕ) (r : Reading) (w : List ℕ) (g : Says (read_text short t) r w) where
+module _ (t s : List ℕ) (room : ℕ) (w : List ℕ) where
   -- the reader's refusal
-  pub text_refused : (r.refusal ≡ 0 → ⊥) → batch_of t s room ≡ refused r.refusal r.place.0
-  text_refused h = batch_refused t s room r.refusal r.place.0 (answer_refused t r w g h)
+  pub text_refused : (r : Refusal) → Says (read_text short t) (reading_of (Err r)) w → batch_of t s room ≡ refused (fault.number_of r.fault) r.place.0
+  text_refused r g = batch_refused t s room (fault.number_of r.fault) r.place.0 (read_refused t w r g)
 
-  module _ (z : r.refusal ≡ 0) where
-    as_steps : batch_of t s room ≡ batch_steps (steps_in w r.count) s room
-    as_steps = batch_read t s room (steps_in w r.count) (answer_steps t r w g z)
+  module _ (n : ℕ) (g : Says (read_text short t) (reading_of (Ok n)) w) where
+    as_steps : batch_of t s room ≡ batch_steps (steps_in w n) s room
+    as_steps = batch_read t s room (steps_in w n) (read_steps t w n g)
 
     -- refusal 40
     pub text_short : room < 19 → batch_of t s room ≡ refused 40 0
-    text_short h = as_steps ∙ batch_short (steps_in w r.count) s room h
+    text_short h = as_steps ∙ batch_short (steps_in w n) s room h
 
     -- else the words read answer the lines, and these alone
-    pub text_lines : length w ≡ 3 * most_steps → (q : Lines) (out : List ℕ) → Answered (take (3 * r.count) w) s 0 q out → length out ≡ room
+    pub text_lines : length w ≡ 3 * most_steps → (q : Progress) (out : List ℕ) → Answered (take (3 * n) w) s 0 q out → length out ≡ room
         → batch_of t s room ≡ answered q.at (take q.put out)
     text_lines e q out a m =
-        let n = answer_count t r w g z in
+        let few = read_count t w n g in
         let o : q.at - 0 ≡ q.at = omega arith in
         as_steps
-        ∙ ap (batch_steps (steps_in w r.count) s) (sym m)
-        ∙ a.batch (steps_in w r.count) (answer_holds t r w g z (omega (arith, n.1)))
+        ∙ ap (batch_steps (steps_in w n) s) (sym m)
+        ∙ a.batch (steps_in w n) (read_holds t w n g (omega (arith, few.1)))
         ∙ ap (λ (k : ℕ). answered k (take q.put out)) o
 
 -- ---- the contract

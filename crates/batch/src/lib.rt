@@ -3,24 +3,48 @@
 #![tactic(auto)]
 
 ghost use Rattle.std.specs.Prelude.{◌≡◌, length};
-ghost use Rattle.programs.specs.Batch.{refused, answer_of, bytes_of, batch_of};
+ghost use Rattle.programs.specs.Batch.{answer_of, bytes_of, batch_of};
+ghost use Rattle.batch.specs.Answer.{answered};
 
+use calls::Refused;
 use output::LINE;
-use programs::LinesAnswer;
+use programs::{LinesAnswer, Progress};
 use reader::read;
 use recipe::MOST_WORDS;
 use stream::answer_lines;
 
-// The answer of a refusal.
-fn refusal(number: u64, place: u64) -> LinesAnswer
-    ensures { result ≡ answer_of (refused number place) }
+// What C is told of the lines.
+fn answer(lines: Result<Progress, Refused>) -> LinesAnswer
+    ensures { result ≡ answered lines }
 {
-    LinesAnswer {
-        refusal: number,
-        place,
-        read: 0,
-        written: 0,
+    match lines {
+        Ok(done) => LinesAnswer {
+            refusal: 0,
+            place: 0,
+            read: done.at as u64,
+            written: done.put as u64,
+        },
+        Err(why) => LinesAnswer {
+            refusal: why.number(),
+            place: why.place(),
+            read: 0,
+            written: 0,
+        },
     }
+}
+
+// The lines of a recipe's text.
+fn lines_on_text(text: &[u8], lines: &[u8], out: &mut [u8]) -> Result<Progress, Refused>
+    ensures { (answered result ≡ answer_of (batch_of text.now lines.now (length out.old)))
+        × (out.new ≡ bytes_of (batch_of text.now lines.now (length out.old)) out.old) }
+{
+    let mut steps = [0u64; MOST_WORDS];
+    let n = read(text, &mut steps)?;
+    if out.len() < LINE {
+        return Err(Refused::Room);
+    }
+    let size = 3 * n;
+    Ok(answer_lines(&steps[..size], lines, out))
 }
 
 // Answers frame lines, each by a line of its own: kind 2 digits and word 16, or ff, a refusal's number and its place, 2 digits each. A refused
@@ -36,20 +60,5 @@ pub fn run_lines(text: &[u8], lines: &[u8], out: &mut [u8]) -> LinesAnswer
     ensures { (result ≡ answer_of (batch_of text.now lines.now (length out.old)))
         × (out.new ≡ bytes_of (batch_of text.now lines.now (length out.old)) out.old) }
 {
-    let mut steps = [0u64; MOST_WORDS];
-    let recipe = read(text, &mut steps);
-    if recipe.refusal != 0 {
-        return refusal(recipe.refusal, recipe.place.0 as u64);
-    }
-    if out.len() < LINE {
-        return refusal(40, 0);
-    }
-    let size = 3 * recipe.count;
-    let done = answer_lines(&steps[..size], lines, 0, out);
-    LinesAnswer {
-        refusal: 0,
-        place: 0,
-        read: done.at as u64,
-        written: done.put as u64,
-    }
+    answer(lines_on_text(text, lines, out))
 }

@@ -22,314 +22,306 @@ ghost use Rattle.semantics.specs.Promise.{Keeps};
 ghost use Rattle.programs.specs.Batch.{batch_of};
 ghost use Rattle.programs.specs.Batch as batch;
 
-use float_format::{Binary32, Binary64, Word16, Word32, Word64};
-use nearest_remainder::{Remquo32, Remquo64};
+use answers::{
+    Frexp32, Frexp64, Patterns32, Patterns64, Remquo32, Remquo64, Whole, Word16, Word32, Word64,
+};
+use double::Double;
+use float_format::Pattern;
 use programs::LinesAnswer;
-use scaling::{Frexp32, Frexp64};
 use semantics::{ExplainAnswer, RunAnswer, SheetAnswer};
-use splitting::{Patterns32, Patterns64};
 
-// A whole number, and the number of the refusal, 0 where there is none.
-#[repr(C)]
-#[derive(Drop)]
-pub struct Whole {
-    pub value: i64,
-    pub refusal: u64,
-}
+mod answers;
+mod double;
 
 #[unsafe(no_mangle)]
 pub extern "C" fn ew_floor_f64(x: u64) -> u64
     ensures { result ≡ integral binary64 Down x }
 {
-    rounding::binary64::floor(x)
+    rounding::floor::<u64>(x)
 }
 
 #[unsafe(no_mangle)]
 pub extern "C" fn ew_floor_f32(x: u32) -> u32
     ensures { result ≡ integral binary32 Down x }
 {
-    rounding::binary32::floor(x)
+    rounding::floor::<u32>(x)
 }
 
 #[unsafe(no_mangle)]
 pub extern "C" fn ew_floor_f16(x: u16) -> u16
     ensures { result ≡ integral binary16 Down x }
 {
-    rounding::binary16::floor(x)
+    rounding::floor::<u16>(x)
 }
 
 #[unsafe(no_mangle)]
 pub extern "C" fn ew_ceil_f64(x: u64) -> u64
     ensures { result ≡ integral binary64 Up x }
 {
-    rounding::binary64::ceil(x)
+    rounding::ceil::<u64>(x)
 }
 
 #[unsafe(no_mangle)]
 pub extern "C" fn ew_ceil_f32(x: u32) -> u32
     ensures { result ≡ integral binary32 Up x }
 {
-    rounding::binary32::ceil(x)
+    rounding::ceil::<u32>(x)
 }
 
 #[unsafe(no_mangle)]
 pub extern "C" fn ew_ceil_f16(x: u16) -> u16
     ensures { result ≡ integral binary16 Up x }
 {
-    rounding::binary16::ceil(x)
+    rounding::ceil::<u16>(x)
 }
 
 #[unsafe(no_mangle)]
 pub extern "C" fn ew_trunc_f64(x: u64) -> u64
     ensures { result ≡ integral binary64 TowardZero x }
 {
-    rounding::binary64::trunc(x)
+    rounding::trunc::<u64>(x)
 }
 
 #[unsafe(no_mangle)]
 pub extern "C" fn ew_trunc_f32(x: u32) -> u32
     ensures { result ≡ integral binary32 TowardZero x }
 {
-    rounding::binary32::trunc(x)
+    rounding::trunc::<u32>(x)
 }
 
 #[unsafe(no_mangle)]
 pub extern "C" fn ew_trunc_f16(x: u16) -> u16
     ensures { result ≡ integral binary16 TowardZero x }
 {
-    rounding::binary16::trunc(x)
+    rounding::trunc::<u16>(x)
 }
 
 #[unsafe(no_mangle)]
 pub extern "C" fn ew_round_f64(x: u64) -> u64
     ensures { result ≡ integral binary64 HalfAway x }
 {
-    rounding::binary64::round(x)
+    rounding::round::<u64>(x)
 }
 
 #[unsafe(no_mangle)]
 pub extern "C" fn ew_round_f32(x: u32) -> u32
     ensures { result ≡ integral binary32 HalfAway x }
 {
-    rounding::binary32::round(x)
+    rounding::round::<u32>(x)
 }
 
 #[unsafe(no_mangle)]
 pub extern "C" fn ew_round_f16(x: u16) -> u16
     ensures { result ≡ integral binary16 HalfAway x }
 {
-    rounding::binary16::round(x)
+    rounding::round::<u16>(x)
 }
 
 #[unsafe(no_mangle)]
 pub extern "C" fn ew_nearbyint_f64(x: u64) -> u64
     ensures { result ≡ integral binary64 HalfEven x }
 {
-    rounding::binary64::nearbyint(x)
+    rounding::nearbyint::<u64>(x)
 }
 
 #[unsafe(no_mangle)]
 pub extern "C" fn ew_nearbyint_f32(x: u32) -> u32
     ensures { result ≡ integral binary32 HalfEven x }
 {
-    rounding::binary32::nearbyint(x)
+    rounding::nearbyint::<u32>(x)
 }
 
 #[unsafe(no_mangle)]
 pub extern "C" fn ew_nearbyint_f16(x: u16) -> u16
     ensures { result ≡ integral binary16 HalfEven x }
 {
-    rounding::binary16::nearbyint(x)
+    rounding::nearbyint::<u16>(x)
 }
 
 #[unsafe(no_mangle)]
 pub extern "C" fn ew_fabs_f64(x: u64) -> u64
     ensures { result ≡ absolute binary64 x }
 {
-    Binary64::fabs(x)
+    u64::fabs(x)
 }
 
 #[unsafe(no_mangle)]
 pub extern "C" fn ew_fabs_f32(x: u32) -> u32
     ensures { result ≡ absolute binary32 x }
 {
-    Binary32::fabs(x)
+    u32::fabs(x)
 }
 
 #[unsafe(no_mangle)]
 pub extern "C" fn ew_negate_f64(x: u64) -> u64
     ensures { result ≡ negated binary64 x }
 {
-    Binary64::negate(x)
+    u64::negate(x)
 }
 
 #[unsafe(no_mangle)]
 pub extern "C" fn ew_negate_f32(x: u32) -> u32
     ensures { result ≡ negated binary32 x }
 {
-    Binary32::negate(x)
+    u32::negate(x)
 }
 
 #[unsafe(no_mangle)]
 pub extern "C" fn ew_classify_f64(x: u64) -> u8
     ensures { result ≡ class_number (classify binary64 x) }
 {
-    Binary64::classify(x).number()
+    u8::from(u64::classify(x))
 }
 
 #[unsafe(no_mangle)]
 pub extern "C" fn ew_classify_f32(x: u32) -> u8
     ensures { result ≡ class_number (classify binary32 x) }
 {
-    Binary32::classify(x).number()
+    u8::from(u32::classify(x))
 }
 
 #[unsafe(no_mangle)]
 pub extern "C" fn ew_lround_f64(x: u64) -> Whole
     ensures { (result.value ≡ lround_value binary64 x) × (result.refusal ≡ lround_refusal binary64 x) }
 {
-    let answer = rounding::binary64::lround(x);
-    Whole {
-        value: answer.value(),
-        refusal: answer.refusal(),
-    }
+    rounding::lround::<u64>(x).into()
 }
 
 #[unsafe(no_mangle)]
 pub extern "C" fn ew_lround_f32(x: u32) -> Whole
     ensures { (result.value ≡ lround_value binary32 x) × (result.refusal ≡ lround_refusal binary32 x) }
 {
-    let answer = rounding::binary32::lround(x);
-    Whole {
-        value: answer.value(),
-        refusal: answer.refusal(),
-    }
+    rounding::lround::<u32>(x).into()
 }
 
 #[unsafe(no_mangle)]
 pub extern "C" fn ew_modf_f64(x: u64) -> Patterns64
     ensures { (result.whole ≡ modf_whole binary64 x) × (result.fraction ≡ modf_fraction binary64 x) }
 {
-    splitting::binary64::modf_patterns(x)
+    splitting::modf_patterns::<u64>(x).into()
 }
 
 #[unsafe(no_mangle)]
 pub extern "C" fn ew_modf_f32(x: u32) -> Patterns32
     ensures { (result.whole ≡ modf_whole binary32 x) × (result.fraction ≡ modf_fraction binary32 x) }
 {
-    splitting::binary32::modf_patterns(x)
+    splitting::modf_patterns::<u32>(x).into()
 }
 
 #[unsafe(no_mangle)]
 pub extern "C" fn ew_frexp_f64(x: u64) -> Frexp64
     ensures { (result.fraction ≡ frexp_fraction binary64 x) × (result.exponent ≡ frexp_exponent binary64 x) }
 {
-    scaling::binary64::frexp(x)
+    scaling::frexp::<u64>(x).into()
 }
 
 #[unsafe(no_mangle)]
 pub extern "C" fn ew_frexp_f32(x: u32) -> Frexp32
     ensures { (result.fraction ≡ frexp_fraction binary32 x) × (result.exponent ≡ frexp_exponent binary32 x) }
 {
-    scaling::binary32::frexp(x)
+    scaling::frexp::<u32>(x).into()
 }
 
 #[unsafe(no_mangle)]
 pub extern "C" fn ew_ldexp_f64(x: u64, n: i64) -> Word64
     ensures { (result.word ≡ ldexp binary64 x n) × (result.refusal ≡ ldexp_refusal binary64 x n) }
 {
-    scaling::binary64::ldexp(x, n)
+    scaling::ldexp::<u64>(x, n).into()
 }
 
 #[unsafe(no_mangle)]
 pub extern "C" fn ew_ldexp_f32(x: u32, n: i64) -> Word32
     ensures { (result.word ≡ ldexp binary32 x n) × (result.refusal ≡ ldexp_refusal binary32 x n) }
 {
-    scaling::binary32::ldexp(x, n)
+    scaling::ldexp::<u32>(x, n).into()
 }
 
 #[unsafe(no_mangle)]
 pub extern "C" fn ew_fmod_f64(x: u64, y: u64) -> Word64
     ensures { (result.word ≡ fmod binary64 x y) × (result.refusal ≡ fmod_refusal binary64 x y) }
 {
-    remainder::binary64::fmod(x, y)
+    let answer = remainder::fmod(Double(x), Double(y));
+    Word64 {
+        word: answer.word.to_word(),
+        refusal: answer.number(),
+    }
 }
 
 #[unsafe(no_mangle)]
 pub extern "C" fn ew_fmod_f32(x: u32, y: u32) -> Word32
     ensures { (result.word ≡ fmod binary32 x y) × (result.refusal ≡ fmod_refusal binary32 x y) }
 {
-    remainder::binary32::fmod(x, y)
+    remainder::fmod::<u32>(x, y).into()
 }
 
 #[unsafe(no_mangle)]
 pub extern "C" fn ew_remainder_f64(x: u64, y: u64) -> Word64
     ensures { (result.word ≡ remainder binary64 x y) × (result.refusal ≡ fmod_refusal binary64 x y) }
 {
-    nearest_remainder::binary64::remainder(x, y)
+    nearest_remainder::remainder::<u64>(x, y).into()
 }
 
 #[unsafe(no_mangle)]
 pub extern "C" fn ew_remainder_f32(x: u32, y: u32) -> Word32
     ensures { (result.word ≡ remainder binary32 x y) × (result.refusal ≡ fmod_refusal binary32 x y) }
 {
-    nearest_remainder::binary32::remainder(x, y)
+    nearest_remainder::remainder::<u32>(x, y).into()
 }
 
 #[unsafe(no_mangle)]
 pub extern "C" fn ew_remquo_f64(x: u64, y: u64) -> Remquo64
     ensures { (result.word ≡ remainder binary64 x y) × (result.quotient ≡ remquo_quotient binary64 x y) × (result.refusal ≡ fmod_refusal binary64 x y) }
 {
-    nearest_remainder::binary64::remquo(x, y)
+    nearest_remainder::remquo::<u64>(x, y).into()
 }
 
 #[unsafe(no_mangle)]
 pub extern "C" fn ew_remquo_f32(x: u32, y: u32) -> Remquo32
     ensures { (result.word ≡ remainder binary32 x y) × (result.quotient ≡ remquo_quotient binary32 x y) × (result.refusal ≡ fmod_refusal binary32 x y) }
 {
-    nearest_remainder::binary32::remquo(x, y)
+    nearest_remainder::remquo::<u32>(x, y).into()
 }
 
 #[unsafe(no_mangle)]
 pub extern "C" fn ew_nextafter_f64(x: u64, y: u64) -> Word64
     ensures { (result.word ≡ nextafter binary64 x y) × (result.refusal ≡ nextafter_refusal binary64 x y) }
 {
-    ordering::binary64::nextafter(x, y)
+    ordering::nextafter::<u64>(x, y).into()
 }
 
 #[unsafe(no_mangle)]
 pub extern "C" fn ew_nextafter_f32(x: u32, y: u32) -> Word32
     ensures { (result.word ≡ nextafter binary32 x y) × (result.refusal ≡ nextafter_refusal binary32 x y) }
 {
-    ordering::binary32::nextafter(x, y)
+    ordering::nextafter::<u32>(x, y).into()
 }
 
 #[unsafe(no_mangle)]
 pub extern "C" fn ew_fmin_f64(x: u64, y: u64) -> u64
     ensures { result ≡ fmin binary64 x y }
 {
-    ordering::binary64::fmin(x, y)
+    ordering::fmin::<u64>(x, y)
 }
 
 #[unsafe(no_mangle)]
 pub extern "C" fn ew_fmin_f32(x: u32, y: u32) -> u32
     ensures { result ≡ fmin binary32 x y }
 {
-    ordering::binary32::fmin(x, y)
+    ordering::fmin::<u32>(x, y)
 }
 
 #[unsafe(no_mangle)]
 pub extern "C" fn ew_fmax_f64(x: u64, y: u64) -> u64
     ensures { result ≡ fmax binary64 x y }
 {
-    ordering::binary64::fmax(x, y)
+    ordering::fmax::<u64>(x, y)
 }
 
 #[unsafe(no_mangle)]
 pub extern "C" fn ew_fmax_f32(x: u32, y: u32) -> u32
     ensures { result ≡ fmax binary32 x y }
 {
-    ordering::binary32::fmax(x, y)
+    ordering::fmax::<u32>(x, y)
 }
 
 #[unsafe(no_mangle)]
@@ -343,7 +335,7 @@ pub extern "C" fn ew_f16_to_f32(x: u16) -> u32
 pub extern "C" fn ew_f32_to_f16(x: u32) -> Word16
     ensures { (result.word ≡ converted binary32 binary16 x) × (result.refusal ≡ converted_refusal binary32 binary16 x) }
 {
-    conversion::export(x)
+    conversion::export(x).into()
 }
 
 #[unsafe(no_mangle)]

@@ -6,20 +6,22 @@
 ghost use Rattle.std.specs.Prelude.{◌≡◌};
 ghost use Rattle.float_format.specs.Format.{binary64};
 ghost use Rattle.arithmetic.specs.Arithmetic.{sum, difference, product};
-ghost use Rattle.cross_check.specs.Finite.{both_finite, on_finite};
+ghost use Rattle.cross_check.specs.Finite.{is_finite, both_finite, on_finite};
 
-use float_format::Binary64;
+use float_format::width::{default_nan, infinity_of, rest};
 
 mod floats;
+
+fn is_finite(x: u64) -> bool
+    ensures { result ≡ is_finite x }
+{
+    rest::<u64>(x) < infinity_of::<u64>()
+}
 
 fn both_finite(x: u64, y: u64) -> bool
     ensures { result ≡ both_finite x y }
 {
-    if x % Binary64::SIGN < Binary64::INFINITY {
-        y % Binary64::SIGN < Binary64::INFINITY
-    } else {
-        false
-    }
+    is_finite(x) && is_finite(y)
 }
 
 // ---- in whole numbers
@@ -28,21 +30,21 @@ fn both_finite(x: u64, y: u64) -> bool
 pub extern "C" fn ew_check_sum(x: u64, y: u64) -> u64
     ensures { result ≡ sum binary64 x y }
 {
-    integer_arithmetic::binary64::sum(x, y)
+    integer_arithmetic::sum(x, y)
 }
 
 #[unsafe(no_mangle)]
 pub extern "C" fn ew_check_difference(x: u64, y: u64) -> u64
     ensures { result ≡ difference binary64 x y }
 {
-    integer_arithmetic::binary64::difference(x, y)
+    integer_arithmetic::difference(x, y)
 }
 
 #[unsafe(no_mangle)]
 pub extern "C" fn ew_check_product(x: u64, y: u64) -> u64
     ensures { result ≡ product binary64 x y }
 {
-    integer_arithmetic::binary64::product(x, y)
+    integer_arithmetic::product(x, y)
 }
 
 // ---- by the language's own operations
@@ -54,7 +56,7 @@ pub extern "C" fn ew_check_float_sum(x: u64, y: u64) -> u64
     if both_finite(x, y) {
         return floats::sum(x, y);
     }
-    Binary64::DEFAULT_NAN
+    default_nan::<u64>()
 }
 
 #[unsafe(no_mangle)]
@@ -64,7 +66,7 @@ pub extern "C" fn ew_check_float_difference(x: u64, y: u64) -> u64
     if both_finite(x, y) {
         return floats::difference(x, y);
     }
-    Binary64::DEFAULT_NAN
+    default_nan::<u64>()
 }
 
 #[unsafe(no_mangle)]
@@ -74,5 +76,5 @@ pub extern "C" fn ew_check_float_product(x: u64, y: u64) -> u64
     if both_finite(x, y) {
         return floats::product(x, y);
     }
-    Binary64::DEFAULT_NAN
+    default_nan::<u64>()
 }

@@ -17,16 +17,17 @@ fn main(rt: HostRuntime) {
     }
     let mut text = [0u8; LOOKED_AT];
     let mut output = [0u8; LINE];
-    let got = stdio::read_full(&rt, &mut text);
-    if let Some(error) = &got.failed {
-        stdio::fail(
-            &rt,
-            "explain: no explanation is written: cannot read standard input",
-            error,
-        );
-        return;
-    }
-    let n = got.count;
+    let n = match stdio::read_full(&rt, &mut text) {
+        Ok(n) => n,
+        Err(error) => {
+            stdio::fail(
+                &rt,
+                "explain: no explanation is written: cannot read standard input",
+                &error,
+            );
+            return;
+        }
+    };
     let size = output::write_explanation(&text[..n], &mut output);
     if let Err(error) = stdio::write_last(&rt, &output[..size]) {
         stdio::fail(

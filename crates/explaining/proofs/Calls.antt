@@ -6,13 +6,16 @@ use mathlib.Core.List.{List, [], ◌∷◌, ◌++◌}
 use Prim.Native.Nat.{ℕ, suc, ◌*◌, ◌/◌}
 use native.Mathlib.Omega.{arith}
 use lib.ListN.{length, take}
-use Rattle.recipe.specs.declared.Reading.{Reading}
+use Rattle.std.specs.Prelude.{Ok, Err}
+use Rattle.recipe.specs.declared.Refusal.{Refusal}
 use Rattle.recipe.specs.declared.Step.{Step}
+use Rattle.recipe.specs.Fault as fault
 use Rattle.recipe.specs.Text.{short, most_steps, read_text}
 use Rattle.recipe.specs.Packed.{bad_words, steps_in}
 use Rattle.recipe.specs.Answer.{Says, Holds}
 use Rattle.recipe.proofs.Packed.{holds_words}
-use Rattle.recipe.proofs.Laws.{answer_steps, answer_count, answer_holds, answer_refused}
+use Rattle.reader.specs.Checks.{reading_of}
+use Rattle.reader.proofs.Laws.{read_steps, read_count, read_holds, read_refused}
 use Rattle.semantics.specs.declared.ExplainAnswer.{ExplainAnswer}
 use Rattle.semantics.specs.Range.{Range, ranged}
 use Rattle.semantics.specs.Range as range
@@ -56,18 +59,18 @@ holds_explained l w h = rw (holds_words l w h, h.kept) (carried_same l (declared
 
 -- ---- a text
 
-module _ (t : List ℕ) (r : Reading) (w : List ℕ) (g : Says (read_text short t) r w) where
+module _ (t w : List ℕ) where
   -- the reader's refusal
-  pub text_refused : (r.refusal ≡ 0 → ⊥) → explain_of t ≡ refused r.refusal r.place.0
+  pub text_refused : (r : Refusal) → Says (read_text short t) (reading_of (Err r)) w → explain_of t ≡ refused (fault.number_of r.fault) r.place.0
   unfolding explain_of on_text
-  text_refused h = rw (answer_refused t r w g h)
+  text_refused r g = rw (read_refused t w r g)
 
   -- else the explanation is that of the words read, and of these alone
-  pub text_explained : r.refusal ≡ 0 → length w ≡ 3 * most_steps → explain_words (take (3 * r.count) w) ≡ explain_of t
+  pub text_explained : (n : ℕ) → Says (read_text short t) (reading_of (Ok n)) w → length w ≡ 3 * most_steps → explain_words (take (3 * n) w) ≡ explain_of t
   unfolding explain_of on_text
-  text_explained z e =
-      let n = answer_count t r w g z in
-      holds_explained (steps_in w r.count) (take (3 * r.count) w) (answer_holds t r w g z (omega (arith, n.1))) ∙ rw (answer_steps t r w g z)
+  text_explained n g e =
+      let few = read_count t w n g in
+      holds_explained (steps_in w n) (take (3 * n) w) (read_holds t w n g (omega (arith, few.1))) ∙ rw (read_steps t w n g)
 
 -- ---- the contract: its first part, and the second
 

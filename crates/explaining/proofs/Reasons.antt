@@ -2,7 +2,6 @@
 use mathlib.Core.Path.{◌≡◌, refl, sym, ap, ◌∙◌}
 use mathlib.Core.Bool.{Bool, true, false, not, cond}
 use mathlib.Core.List.{List, [], ◌∷◌}
-use mathlib.Core.Logic.{◌⊎◌, inl, inr}
 use Prim.Native.Nat.{ℕ, ◌^◌}
 use lib.Dec.{eqb, leb}
 use lib.IntN.{ℤ, nat_abs}
@@ -10,30 +9,19 @@ use lib.ListN.{get_or}
 use Rattle.float_format.specs.Format.{binary64, is_infinite}
 use Rattle.float_format.specs.Rounding.{lround_refusal, lround_value}
 use Rattle.scaling.specs.Scaling.{ldexp, ldexp_refusal}
+use Rattle.std.specs.Prelude.{Result, Ok, Err, is_err}
+use Rattle.values.specs.declared.Value.{Value}
+use Rattle.values.specs.declared.Refusal.{Refusal}
 use Rattle.values.specs.Carried.{real}
+use Rattle.values.specs.Seen.{outcome_of}
 use Rattle.recipe.specs.declared.Step.{Step}
 use Rattle.recipe.specs.Text.{first, second}
 use Rattle.semantics.specs.Value.{Datum, whole, Outcome, done, refused, fits_word, of_whole}
-use borrow.Author.Tests.{ne_eqb}
 use Rattle.semantics.specs.Range.{Range, doubles, wholes, low, high, least, most, is_negative, is_positive}
-use Rattle.semantics.specs.Cause.{Named, of_a, of_b, Cause, cause, operand_of, overflows, first_cause, lround_causes, whole_causes, ldexp_causes, double_causes, causes_of, cause_of, operand_in, code_in}
+use Rattle.semantics.specs.Cause.{of_a, of_b, Cause, cause, overflows, first_cause, lround_causes, whole_causes, ldexp_causes, double_causes, causes_of, cause_of, operand_in, code_in}
 use Rattle.semantics.specs.Sheet.{no_range}
 use Rattle.semantics.specs.Explain.{explained, why_on}
 use Rattle.explaining.specs.Reasons.{Tells, is_refused}
-
--- two facts about the operand i, of which each has its code
-module _ (t : Step) (names : Named) (i c d n : ℕ) (low high : Bool) (l : List Cause) (is : i ≡ operand_of t names) where
-  pub tells_low : low ≡ true → Tells t (cause c names n low ∷ cause d names n high ∷ l) i c
-  unfolding first_cause
-  tells_low e = rw e (is, refl)
-
-  pub tells_high : low ≡ false → high ≡ true → Tells t (cause c names n low ∷ cause d names n high ∷ l) i d
-  unfolding first_cause
-  tells_high e f = rw (e, f) (is, refl)
-
-  pub tells_after : low ≡ false → high ≡ false → (o k : ℕ) → Tells t l o k → Tells t (cause c names n low ∷ cause d names n high ∷ l) o k
-  unfolding first_cause
-  tells_after e f o k h = rw (e, f) h
 
 -- of B
 module _ (t : Step) (c n : ℕ) (holds : Bool) (l : List Cause) where
@@ -45,9 +33,14 @@ module _ (t : Step) (c n : ℕ) (holds : Bool) (l : List Cause) where
   unfolding first_cause
   tells_rest e o k h = rw e h
 
-pub tells_none : (t : Step) (o k : ℕ) → o ≡ 0 → k ≡ 0 → Tells t [] o k
+pub tells_none : (t : Step) → Tells t [] 0 0
 unfolding first_cause
-tells_none t o k e f = (e, f)
+tells_none t = (refl, refl)
+
+-- what the code asks of an end
+pub refused_told : (o : Result Value Refusal) → is_err o ≡ is_refused (outcome_of o)
+refused_told (Ok v) = refl
+refused_told (Err why) = refl
 
 -- what a rule that tests once refuses
 pub refused_is : (b : Bool) (v : Datum) (number : ℕ) (o : Outcome) → o ≡ cond b (done v) (refused number) → is_refused o ≡ not b
@@ -94,26 +87,6 @@ ldexp-told t l h least most m n o p i k em en eo ep g =
 -- the causes of an arm's opcode are the step's
 pub at_opcode : (t : Step) (a b : Range) {k : ℕ} (o c : ℕ) → t.opcode ≡ k → Tells t (causes_of k a b) o c → Tells t (causes_of t.opcode a b) o c
 at_opcode t a b o c e h = (h.0 ∙ ap (λ (n : ℕ). operand_in t (first_cause (causes_of n a b))) (sym e), h.1 ∙ ap (λ (n : ℕ). code_in (first_cause (causes_of n a b))) (sym e))
-
--- what the last arm of the match knows
-abbrev Other : ℕ → Type 0
-Other k = ((((((((Unit {0} × (k ≡ 24 → ⊥)) × ((k ≡ 34) ⊎ (k ≡ 36) → ⊥)) × (k ≡ 35 → ⊥)) × (k ≡ 48 → ⊥)) × (k ≡ 49 → ⊥)) × (k ≡ 50 → ⊥)) × (k ≡ 64 → ⊥)) × (k ≡ 65 → ⊥)) × (k ≡ 66 → ⊥)
-
-pub tells_other : (t : Step) (a b : Range) (o c : ℕ) → o ≡ 0 → c ≡ 0 → Other t.opcode → Tells t (causes_of t.opcode a b) o c
-unfolding causes_of
-tells_other t a b o c e f h =
-    simp (
-      ne_eqb t.opcode 24 h.0.0.0.0.0.0.0.0.1,
-      ne_eqb t.opcode 34 (λ n. h.0.0.0.0.0.0.0.1 (inl n)),
-      ne_eqb t.opcode 36 (λ n. h.0.0.0.0.0.0.0.1 (inr n)),
-      ne_eqb t.opcode 35 h.0.0.0.0.0.0.1,
-      ne_eqb t.opcode 48 h.0.0.0.0.0.1,
-      ne_eqb t.opcode 49 h.0.0.0.0.1,
-      ne_eqb t.opcode 50 h.0.0.0.1,
-      ne_eqb t.opcode 64 h.0.0.1,
-      ne_eqb t.opcode 65 h.0.1,
-      ne_eqb t.opcode 66 h.1,
-    ) (tells_none t o c e f)
 
 -- ---- the step that the fold stops at
 

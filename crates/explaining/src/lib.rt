@@ -1,88 +1,97 @@
 // Why a recipe's sheet is refused (document 02, W-205): the step, the operand and the reason's code.
 #![tactic(auto)]
 
-ghost use Rattle.std.specs.Prelude.{◌≡◌, List, [], ◌*◌, ◌≤◌, length};
+ghost use Rattle.std.specs.Prelude.{◌≡◌, List, []};
 ghost use Rattle.recipe.specs.declared.Step.{Step};
-ghost use Rattle.recipe.specs.Text.{most_steps};
-ghost use Rattle.recipe.specs.Packed.{steps_in};
+ghost use Rattle.recipe.specs.Packed.{steps_of};
 ghost use Rattle.recipe.specs.Answer.{Holds};
-ghost use Rattle.semantics.specs.Explain.{passed, explained, refused, explain_steps, explain_of, answer_of};
+ghost use Rattle.semantics.specs.Explain.{explain_steps, explain_of, answer_of};
+ghost use Rattle.explaining.specs.Answer.{answered, explained_by};
 ghost use Rattle.explaining.specs.Packed.{carried_from, explain_words};
 
+use calls::Refused;
 use causes::{Reason, reason_of};
 use ranges::bounds::step_range;
-use ranges::{Bound, Range, WholeRange};
+use ranges::{Range, WholeRange};
 use reader::read;
 use recipe::{MOST_STEPS, MOST_WORDS, StepNumber};
 use semantics::ExplainAnswer;
-use steps::{bad_words, step_at};
+use steps::Steps;
 use values::place_of;
 
 mod causes;
 
-// The answer of a text that is refused.
-fn refusal(number: u64, place: StepNumber) -> ExplainAnswer
-    ensures { result ≡ answer_of (refused number place.0) }
+// The step that the sheet turns down, and why.
+#[derive(Clone, Copy)]
+struct TurnedDown {
+    step: StepNumber,
+    why: Option<Reason>,
+}
+
+// What C is told: the step that the sheet turns down, if there is one, or that the recipe itself is refused.
+fn answer(explained: Result<Option<TurnedDown>, Refused>) -> ExplainAnswer
+    ensures { result ≡ answered explained }
 {
-    ExplainAnswer {
-        refusal: number,
-        place: place.0 as u64,
-        step: 0,
-        operand: 0,
-        reason: 0,
+    match explained {
+        Ok(Some(turned)) => {
+            let (operand, reason) = match turned.why {
+                Some(why) => (u64::from(why.operand.0), why.code),
+                None => (0, 0),
+            };
+            ExplainAnswer {
+                refusal: 0,
+                place: 0,
+                step: u64::from(turned.step.0),
+                operand,
+                reason,
+            }
+        }
+        Ok(None) => ExplainAnswer {
+            refusal: 0,
+            place: 0,
+            step: 0,
+            operand: 0,
+            reason: 0,
+        },
+        Err(why) => ExplainAnswer::from(why),
     }
 }
 
-// The answer of a step that is turned down.
-fn turned_down(step: StepNumber, why: Reason) -> ExplainAnswer
-    ensures { result ≡ answer_of (explained step.0 why.operand why.code) }
+// The explanation of the steps: their ranges up to the first that is turned down, as the sheet has them.
+fn explain_steps(steps: Steps) -> Option<TurnedDown>
+    ensures { explained_by result ≡ carried_from (steps_of steps.entry.words.now) 0 [] }
 {
-    ExplainAnswer {
-        refusal: 0,
-        place: 0,
-        step: step.0 as u64,
-        operand: why.operand,
-        reason: why.code,
-    }
-}
-
-// The answer of a recipe whose sheet passes.
-fn no_reason() -> ExplainAnswer
-    ensures { result ≡ answer_of passed }
-{
-    ExplainAnswer {
-        refusal: 0,
-        place: 0,
-        step: 0,
-        operand: 0,
-        reason: 0,
-    }
-}
-
-// The explanation of the first n steps: their ranges up to the first that is turned down, as the sheet has them.
-fn explain_steps(steps: &[u64], n: usize) -> ExplainAnswer
-    requires { (n ≤ most_steps) × (3 * n ≤ length steps.now) }
-    ensures { result ≡ answer_of (carried_from (steps_in steps.now n) 0 []) }
-{
+    let n = steps.len();
     let mut ranges = [Range::Wholes(WholeRange { low: 0, high: 0 }); MOST_STEPS];
-    let mut i: usize = 0;
-    while i < n {
-        let t = step_at(steps, i);
+    for i in 0..n {
+        let t = steps.at(i);
         let f = place_of(t.a, i);
         let g = place_of(t.b, i);
         let a = ranges[f];
         let b = ranges[g];
         let r = match step_range(t, a, b) {
-            Bound::Ranged(r) => r,
-            Bound::Refused(_) => {
+            Ok(r) => r,
+            Err(_) => {
                 let why = reason_of(t, a, b);
-                return turned_down(StepNumber(i as u16), why);
+                return Some(TurnedDown {
+                    step: StepNumber(i as u16),
+                    why,
+                });
             }
         };
         ranges[i] = r;
-        i += 1;
     }
-    no_reason()
+    None
+}
+
+// The explanation of a recipe's words.
+fn explain_on_words(steps: &[u64]) -> Result<Option<TurnedDown>, Refused>
+    ensures { answered result ≡ answer_of (explain_words steps.now) }
+{
+    let Some(recipe) = Steps::new(steps) else {
+        return Err(Refused::Words);
+    };
+    Ok(explain_steps(recipe))
 }
 
 // Why the sheet of a recipe that was read is refused with 20 to 22: the step, the step of the operand that the reason is about, and the reason's
@@ -95,24 +104,24 @@ fn explain_steps(steps: &[u64], n: usize) -> ExplainAnswer
 // that floats carry the ends as they are.
 pub fn explain_recipe(steps: &[u64]) -> ExplainAnswer
     ensures value { result ≡ answer_of (explain_words steps.now) }
-    ensures value_2 { (l : List Step) → Holds l steps.now → result ≡ answer_of (explain_steps l) }
+    ensures of_steps { (l : List Step) → Holds l steps.now → result ≡ answer_of (explain_steps l) }
 {
-    let size = steps.len();
-    if bad_words(size) {
-        return refusal(10, StepNumber(0));
-    }
-    explain_steps(steps, size / 3)
+    answer(explain_on_words(steps))
+}
+
+// The explanation of a recipe's text.
+fn explain_on_text(text: &[u8]) -> Result<Option<TurnedDown>, Refused>
+    ensures { answered result ≡ answer_of (explain_of text.now) }
+{
+    let mut steps = [0u64; MOST_WORDS];
+    let n = read(text, &mut steps)?;
+    let size = 3 * n;
+    explain_on_words(&steps[..size])
 }
 
 // The same of a recipe's text. Refuses 10 to 17 as the reader does.
 pub fn explain(text: &[u8]) -> ExplainAnswer
     ensures { result ≡ answer_of (explain_of text.now) }
 {
-    let mut steps = [0u64; MOST_WORDS];
-    let recipe = read(text, &mut steps);
-    if recipe.refusal != 0 {
-        return refusal(recipe.refusal, recipe.place);
-    }
-    let size = 3 * recipe.count;
-    explain_recipe(&steps[..size])
+    answer(explain_on_text(text))
 }

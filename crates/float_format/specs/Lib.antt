@@ -3,3 +3,5 @@ pub mod Format
 pub mod Number
 pub mod Width
 pub mod Rounding
+pub mod Widths
+pub mod Refusals

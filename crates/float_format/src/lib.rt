@@ -1,14 +1,18 @@
-// Formats of binary floating point: a type a width, with its field sizes, its default NaN and the functions that read a pattern.
+// Formats of binary floating point: patterns as words of 64, 32 and 16 bits, with what all functions on them ask.
 #![tactic(auto)]
 
-ghost use Rattle.std.specs.Prelude.{◌≡◌};
-ghost use Rattle.float_format.specs.Format.{binary16, binary32, binary64, classify, class_number, is_nan, quieted, absolute, negated};
+ghost use Rattle.std.specs.Prelude.{◌≡◌, ℕ, ◌*◌, ◌<◌, None};
+ghost use Rattle.float_format.specs.Format.{Format, binary64, binary32, binary16, sign_bit, classify, class_number, is_nan, quieted, absolute, negated};
 ghost use Rattle.float_format.specs.Number.{rank};
+ghost use Rattle.float_format.specs.Width.{InWord, Wide};
+ghost use Rattle.float_format.specs.declared.Class.{Class};
+ghost use Rattle.float_format.specs.Refusals.{number_of, refusal_number};
+ghost use Rattle.float_format.specs.Widths.{word64, word32, word16, wide64, wide32};
 
 pub mod width;
 
 // What a pattern stands for. Document 01 numbers the classes 0 to 4, in this order.
-#[derive(Drop)]
+#[derive(Clone, Copy, PartialEq, Eq)]
 pub enum Class {
     Nan,
     Infinite,
@@ -17,12 +21,12 @@ pub enum Class {
     Normal,
 }
 
-impl Class {
+impl From<Class> for u8 {
+    ghost from_gives = { λ class n. n ≡ class_number class };
+
     // The number of the class: 0 NaN, 1 infinite, 2 zero, 3 subnormal, 4 normal.
-    pub fn number(self) -> u8
-        ensures { result ≡ class_number self }
-    {
-        match self {
+    fn from(class: Class) -> u8 {
+        match class {
             Class::Nan => 0,
             Class::Infinite => 1,
             Class::Zero => 2,
@@ -33,7 +37,7 @@ impl Class {
 }
 
 // How a number is rounded to a whole one: floor, ceil, trunc, round, nearbyint.
-#[derive(Clone, Copy)]
+#[derive(Clone, Copy, PartialEq, Eq)]
 pub enum Direction {
     Down,
     Up,
@@ -42,249 +46,218 @@ pub enum Direction {
     HalfEven,
 }
 
-// What a function that may refuse answers: a pattern, and the number of the refusal, 0 where there is none.
-#[repr(C)]
-#[derive(Drop)]
-pub struct Word64 {
-    pub word: u64,
-    pub refusal: u64,
-}
+// A pattern of a binary floating-point format, as the unsigned number that has its bits: u64 of binary64, f64's patterns; u32 of
+// binary32, f32's; u16 of binary16, those of halves.
+pub trait Pattern: Copy {
+    ghost format: { Format };
 
-#[repr(C)]
-#[derive(Drop)]
-pub struct Word32 {
-    pub word: u32,
-    pub refusal: u64,
-}
+    // The number of the pattern.
+    ghost bits: { Self → ℕ };
 
-#[repr(C)]
-#[derive(Drop)]
-pub struct Word16 {
-    pub word: u16,
-    pub refusal: u64,
-}
+    // The sizes of the fraction and of the exponent field. Beside them stands the sign.
+    fn fraction_bits() -> u64
+        ensures { result ≡ format.fraction };
 
-// binary64: f64's patterns, as u64.
-#[derive(Drop)]
-pub struct Binary64 {}
+    fn exponent_bits() -> u64
+        ensures { result ≡ format.exponent };
 
-impl Binary64 {
-    pub const FRACTION_BITS: u64 = 52;
+    fn to_word(self) -> u64
+        ensures { (result ≡ bits self) × (result < 2 * sign_bit format) };
 
-    pub const EXPONENT_BITS: u64 = 11;
-
-    pub const SIGN: u64 = 0x8000_0000_0000_0000;
-
-    pub const INFINITY: u64 = 0x7ff0_0000_0000_0000;
-
-    pub const SMALLEST_NORMAL: u64 = 0x0010_0000_0000_0000;
-
-    pub const QUIET: u64 = 0x0008_0000_0000_0000;
-
-    pub const DEFAULT_NAN: u64 = 0x7ff8_0000_0000_0000;
+    fn from_word(word: u64) -> Self
+        requires { word < 2 * sign_bit format }
+        ensures { bits result ≡ word };
 
     // The class of x.
-    pub fn classify(x: u64) -> Class
-        ensures { result ≡ classify binary64 x }
+    final fn classify(self) -> Class
+        ensures { result ≡ classify format (bits self) }
     {
-        let a = x % Self::SIGN;
-        if a > Self::INFINITY {
+        let a = width::rest::<Self>(self.to_word());
+        let infinity = width::infinity_of::<Self>();
+        let smallest_normal = width::unit::<Self>();
+        if a > infinity {
             return Class::Nan;
         }
-        if a == Self::INFINITY {
+        if a == infinity {
             return Class::Infinite;
         }
         if a == 0 {
             return Class::Zero;
         }
-        if a < Self::SMALLEST_NORMAL {
+        if a < smallest_normal {
             return Class::Subnormal;
         }
         Class::Normal
     }
 
     // Whether x is a NaN.
-    pub fn is_nan(x: u64) -> bool
-        ensures { result ≡ is_nan binary64 x }
+    final fn is_nan(self) -> bool
+        ensures { result ≡ is_nan format (bits self) }
     {
-        x % Self::SIGN > Self::INFINITY
+        width::rest::<Self>(self.to_word()) > width::infinity_of::<Self>()
     }
 
     // x with the top fraction bit set, which makes a NaN quiet.
-    pub fn quiet(x: u64) -> u64
-        ensures { result ≡ quieted binary64 x }
+    final fn quiet(self) -> Self
+        ensures { bits result ≡ quieted format (bits self) }
     {
-        x | Self::QUIET
+        Self::from_word(width::quiet::<Self>(self.to_word()))
     }
 
     // x with its sign cleared, NaN included.
-    pub fn fabs(x: u64) -> u64
-        ensures { result ≡ absolute binary64 x }
+    final fn fabs(self) -> Self
+        ensures { bits result ≡ absolute format (bits self) }
     {
-        x % Self::SIGN
+        Self::from_word(width::rest::<Self>(self.to_word()))
     }
 
     // x with its sign flipped, NaN included.
-    pub fn negate(x: u64) -> u64
-        ensures { result ≡ negated binary64 x }
+    final fn negate(self) -> Self
+        ensures { bits result ≡ negated format (bits self) }
     {
-        x ^ Self::SIGN
+        Self::from_word(self.to_word() ^ width::sign_bit::<Self>())
     }
 
     // A whole number by which patterns compare as their numbers do, the two zeros equal.
-    pub fn rank(x: u64) -> u64
-        ensures { result ≡ rank binary64 x }
+    final fn rank(self) -> Self
+        ensures { bits result ≡ rank format (bits self) }
     {
-        width::rank(Self::FRACTION_BITS, Self::EXPONENT_BITS, x)
+        Self::from_word(width::rank::<Self>(self.to_word()))
+    }
+
+    ghost fits: { InWord format };
+}
+
+impl Pattern for u64 {
+    ghost format = { binary64 };
+
+    ghost bits = { λ x. x };
+
+    ghost fits = { word64 };
+
+    fn fraction_bits() -> u64 {
+        52
+    }
+
+    fn exponent_bits() -> u64 {
+        11
+    }
+
+    fn to_word(self) -> u64 {
+        self
+    }
+
+    fn from_word(word: u64) -> u64 {
+        word
     }
 }
 
-// binary32: f32's patterns, as u32.
-#[derive(Drop)]
-pub struct Binary32 {}
+impl Pattern for u32 {
+    ghost format = { binary32 };
 
-impl Binary32 {
-    pub const FRACTION_BITS: u64 = 23;
+    ghost bits = { λ x. x };
 
-    pub const EXPONENT_BITS: u64 = 8;
+    ghost fits = { word32 };
 
-    pub const SIGN: u32 = 0x8000_0000;
-
-    pub const INFINITY: u32 = 0x7f80_0000;
-
-    pub const SMALLEST_NORMAL: u32 = 0x0080_0000;
-
-    pub const QUIET: u32 = 0x0040_0000;
-
-    pub const DEFAULT_NAN: u32 = 0x7fc0_0000;
-
-    // The class of x.
-    pub fn classify(x: u32) -> Class
-        ensures { result ≡ classify binary32 x }
-    {
-        let a = x % Self::SIGN;
-        if a > Self::INFINITY {
-            return Class::Nan;
-        }
-        if a == Self::INFINITY {
-            return Class::Infinite;
-        }
-        if a == 0 {
-            return Class::Zero;
-        }
-        if a < Self::SMALLEST_NORMAL {
-            return Class::Subnormal;
-        }
-        Class::Normal
+    fn fraction_bits() -> u64 {
+        23
     }
 
-    // Whether x is a NaN.
-    pub fn is_nan(x: u32) -> bool
-        ensures { result ≡ is_nan binary32 x }
-    {
-        x % Self::SIGN > Self::INFINITY
+    fn exponent_bits() -> u64 {
+        8
     }
 
-    // x with the top fraction bit set, which makes a NaN quiet.
-    pub fn quiet(x: u32) -> u32
-        ensures { result ≡ quieted binary32 x }
-    {
-        x | Self::QUIET
+    fn to_word(self) -> u64 {
+        self as u64
     }
 
-    // x with its sign cleared, NaN included.
-    pub fn fabs(x: u32) -> u32
-        ensures { result ≡ absolute binary32 x }
-    {
-        x % Self::SIGN
-    }
-
-    // x with its sign flipped, NaN included.
-    pub fn negate(x: u32) -> u32
-        ensures { result ≡ negated binary32 x }
-    {
-        x ^ Self::SIGN
-    }
-
-    // A whole number by which patterns compare as their numbers do, the two zeros equal.
-    pub fn rank(x: u32) -> u32
-        ensures { result ≡ rank binary32 x }
-    {
-        width::rank(Self::FRACTION_BITS, Self::EXPONENT_BITS, x as u64) as u32
+    fn from_word(word: u64) -> u32 {
+        word as u32
     }
 }
 
-// binary16: the patterns of halves, as u16.
-#[derive(Drop)]
-pub struct Binary16 {}
+impl Pattern for u16 {
+    ghost format = { binary16 };
 
-impl Binary16 {
-    pub const FRACTION_BITS: u64 = 10;
+    ghost bits = { λ x. x };
 
-    pub const EXPONENT_BITS: u64 = 5;
+    ghost fits = { word16 };
 
-    pub const SIGN: u16 = 0x8000;
+    fn fraction_bits() -> u64 {
+        10
+    }
 
-    pub const INFINITY: u16 = 0x7c00;
+    fn exponent_bits() -> u64 {
+        5
+    }
 
-    pub const SMALLEST_NORMAL: u16 = 0x0400;
+    fn to_word(self) -> u64 {
+        self as u64
+    }
 
-    pub const QUIET: u16 = 0x0200;
+    fn from_word(word: u64) -> u16 {
+        word as u16
+    }
+}
 
-    pub const DEFAULT_NAN: u16 = 0x7e00;
+// The formats that have all functions: a half has the roundings and its conversions alone.
+pub trait Wide: Pattern {
+    ghost wide: { Wide Self.format };
+}
 
-    // The class of x.
-    pub fn classify(x: u16) -> Class
-        ensures { result ≡ classify binary16 x }
-    {
-        let a = x % Self::SIGN;
-        if a > Self::INFINITY {
-            return Class::Nan;
+impl Wide for u64 {
+    ghost wide = { wide64 };
+}
+
+impl Wide for u32 {
+    ghost wide = { wide32 };
+}
+
+// Why a function refuses. Document 01 numbers the refusals 1 to 3, in this order.
+#[derive(Clone, Copy, PartialEq, Eq)]
+pub enum Refusal {
+    NotANumber,
+    Undefined,
+    OutOfRange,
+}
+
+impl From<Refusal> for u64 {
+    ghost from_gives = { λ refusal n. n ≡ number_of refusal };
+
+    fn from(refusal: Refusal) -> u64 {
+        match refusal {
+            Refusal::NotANumber => 1,
+            Refusal::Undefined => 2,
+            Refusal::OutOfRange => 3,
         }
-        if a == Self::INFINITY {
-            return Class::Infinite;
+    }
+}
+
+// What a function that may refuse answers: a pattern, which is fixed where it refuses too, and the refusal.
+#[derive(Clone, Copy)]
+pub struct Word<P> {
+    pub word: P,
+    pub refusal: Option<Refusal>,
+}
+
+impl<P: Copy> Word<P> {
+    // The answer without a refusal.
+    pub fn of(word: P) -> Word<P>
+        ensures { (result.word ≡ word) × (result.refusal ≡ None) }
+    {
+        Word {
+            word,
+            refusal: None,
         }
-        if a == 0 {
-            return Class::Zero;
+    }
+
+    // The number of the refusal, 0 where there is none.
+    pub fn number(self) -> u64
+        ensures { result ≡ refusal_number self.refusal }
+    {
+        match self.refusal {
+            Some(refusal) => u64::from(refusal),
+            None => 0,
         }
-        if a < Self::SMALLEST_NORMAL {
-            return Class::Subnormal;
-        }
-        Class::Normal
-    }
-
-    // Whether x is a NaN.
-    pub fn is_nan(x: u16) -> bool
-        ensures { result ≡ is_nan binary16 x }
-    {
-        x % Self::SIGN > Self::INFINITY
-    }
-
-    // x with the top fraction bit set, which makes a NaN quiet.
-    pub fn quiet(x: u16) -> u16
-        ensures { result ≡ quieted binary16 x }
-    {
-        x | Self::QUIET
-    }
-
-    // x with its sign cleared, NaN included.
-    pub fn fabs(x: u16) -> u16
-        ensures { result ≡ absolute binary16 x }
-    {
-        x % Self::SIGN
-    }
-
-    // x with its sign flipped, NaN included.
-    pub fn negate(x: u16) -> u16
-        ensures { result ≡ negated binary16 x }
-    {
-        x ^ Self::SIGN
-    }
-
-    // A whole number by which patterns compare as their numbers do, the two zeros equal.
-    pub fn rank(x: u16) -> u16
-        ensures { result ≡ rank binary16 x }
-    {
-        width::rank(Self::FRACTION_BITS, Self::EXPONENT_BITS, x as u64) as u16
     }
 }

@@ -1,11 +1,13 @@
-// A format's numbers with the width open: `fraction` and `exponent` are its field sizes, which each width's module hands over as
-// numbers, so that the compiler folds all of this. Not entry points: each asks that a pattern fits a word.
+// A format's numbers, generic over the width: every size is worked out from the two that a `Pattern` has, so that the compiler folds all of
+// this. Not entry points: what takes a pattern as a word asks that it fits one. The parts of a word are taken by `&`: of a `%` by the sign's
+// weight the compiler makes a comparison and a choice.
 ghost use Rattle.std.specs.Prelude.{◌≡◌, false, ◌-◌, ◌*◌, ◌%◌, ◌^◌, ◌<◌, ◌≤◌};
-ghost use Rattle.float_format.specs.Format.{sign_bit, top_field, infinity, unsigned, exponent_field, quieted, propagated};
+ghost use Rattle.float_format.specs.Format.{sign_bit, top_field, infinity, unsigned, exponent_field, quieted, propagated, default_nan};
 ghost use Rattle.float_format.specs.Number.{encode, bias, leading_shift, rank};
 ghost use Rattle.float_format.specs.Rounding.{parts};
-ghost use Rattle.float_format.specs.Width.{format, InWord};
 ghost use Rattle.float_format.specs.declared.Direction.TheVariants.{HalfEven};
+
+use crate::Pattern;
 
 pub fn power(k: u64) -> u64
     requires { k < 64 }
@@ -14,95 +16,105 @@ pub fn power(k: u64) -> u64
     1 << k
 }
 
-pub fn sign_bit(fraction: u64, exponent: u64) -> u64
-    requires { InWord (format fraction exponent) }
-    ensures { result ≡ sign_bit (format fraction exponent) }
+// One more than the largest fraction: the weight of the exponent field's lowest bit.
+pub fn unit<P: Pattern>() -> u64
+    ensures { result ≡ 2 ^ P.format.fraction }
 {
-    power(exponent + fraction)
+    power(P::fraction_bits())
 }
 
-pub fn top_field(fraction: u64, exponent: u64) -> u64
-    requires { InWord (format fraction exponent) }
-    ensures { result ≡ top_field (format fraction exponent) }
+// One more than the largest exponent field.
+fn fields<P: Pattern>() -> u64
+    ensures { result ≡ 2 ^ P.format.exponent }
 {
-    power(exponent) - 1
+    power(P::exponent_bits())
 }
 
-pub fn bias_of(fraction: u64, exponent: u64) -> u64
-    requires { InWord (format fraction exponent) }
-    ensures { result ≡ bias (format fraction exponent) }
+pub fn sign_bit<P: Pattern>() -> u64
+    ensures { result ≡ sign_bit P.format }
 {
-    power(exponent - 1) - 1
+    power(P::exponent_bits() + P::fraction_bits())
 }
 
-pub fn infinity_of(fraction: u64, exponent: u64) -> u64
-    requires { InWord (format fraction exponent) }
-    ensures { result ≡ infinity (format fraction exponent) }
+pub fn top_field<P: Pattern>() -> u64
+    ensures { result ≡ top_field P.format }
 {
-    top_field(fraction, exponent) * power(fraction)
+    fields::<P>() - 1
+}
+
+pub fn bias_of<P: Pattern>() -> u64
+    ensures { result ≡ bias P.format }
+{
+    power(P::exponent_bits() - 1) - 1
+}
+
+pub fn infinity_of<P: Pattern>() -> u64
+    ensures { result ≡ infinity P.format }
+{
+    top_field::<P>() * unit::<P>()
+}
+
+pub fn default_nan<P: Pattern>() -> u64
+    ensures { (result ≡ default_nan P.format) × (result < 2 * sign_bit P.format) }
+{
+    infinity_of::<P>() + power(P::fraction_bits() - 1)
 }
 
 // The pattern of 1.
-pub fn one(fraction: u64, exponent: u64) -> u64
-    requires { InWord (format fraction exponent) }
-    ensures { result ≡ bias (format fraction exponent) * 2 ^ fraction }
+pub fn one<P: Pattern>() -> u64
+    ensures { result ≡ bias P.format * 2 ^ P.format.fraction }
 {
-    bias_of(fraction, exponent) * power(fraction)
+    bias_of::<P>() * unit::<P>()
 }
 
-pub fn field(fraction: u64, exponent: u64, x: u64) -> u64
-    requires { InWord (format fraction exponent) }
-    ensures { (result ≡ exponent_field (format fraction exponent) x) × (result ≤ top_field (format fraction exponent)) }
+pub fn field<P: Pattern>(x: u64) -> u64
+    ensures { (result ≡ exponent_field P.format x) × (result ≤ top_field P.format) }
 {
-    (x >> fraction) % power(exponent)
+    (x >> P::fraction_bits()) & top_field::<P>()
 }
 
 // x without its sign.
-pub fn rest(fraction: u64, exponent: u64, x: u64) -> u64
-    requires { InWord (format fraction exponent) }
-    ensures { result ≡ unsigned (format fraction exponent) x }
+pub fn rest<P: Pattern>(x: u64) -> u64
+    ensures { result ≡ unsigned P.format x }
 {
-    x % sign_bit(fraction, exponent)
+    x & (sign_bit::<P>() - 1)
 }
 
 // The zero of x's sign.
-pub fn signed_zero(fraction: u64, exponent: u64, x: u64) -> u64
-    requires { InWord (format fraction exponent) }
-    ensures { result ≡ x - x % sign_bit (format fraction exponent) }
+pub fn signed_zero<P: Pattern>(x: u64) -> u64
+    ensures { result ≡ x - x % sign_bit P.format }
 {
-    x - x % sign_bit(fraction, exponent)
+    x - rest::<P>(x)
 }
 
 // x with the top fraction bit set.
-pub fn quiet(fraction: u64, exponent: u64, x: u64) -> u64
-    requires { InWord (format fraction exponent) × (x < 2 * sign_bit (format fraction exponent)) }
-    ensures { (result ≡ quieted (format fraction exponent) x) × (result < 2 * sign_bit (format fraction exponent)) }
+pub fn quiet<P: Pattern>(x: u64) -> u64
+    requires { x < 2 * sign_bit P.format }
+    ensures { (result ≡ quieted P.format x) × (result < 2 * sign_bit P.format) }
 {
-    x | power(fraction - 1)
+    x | power(P::fraction_bits() - 1)
 }
 
 // A NaN quieted, or an infinity unchanged.
-pub fn not_finite(fraction: u64, exponent: u64, x: u64) -> u64
-    requires { InWord (format fraction exponent) × (x < 2 * sign_bit (format fraction exponent)) × (exponent_field (format fraction exponent) x ≡ top_field (format fraction exponent)) }
-    ensures { (result ≡ propagated (format fraction exponent) x) × (result < 2 * sign_bit (format fraction exponent)) }
+pub fn not_finite<P: Pattern>(x: u64) -> u64
+    requires { (x < 2 * sign_bit P.format) × (exponent_field P.format x ≡ top_field P.format) }
+    ensures { (result ≡ propagated P.format x) × (result < 2 * sign_bit P.format) }
 {
-    if x % power(fraction) == 0 {
+    if x % unit::<P>() == 0 {
         return x;
     }
-    quiet(fraction, exponent, x)
+    quiet::<P>(x)
 }
 
 // A whole number by which patterns compare as their numbers do, the two zeros equal.
-pub fn rank(fraction: u64, exponent: u64, x: u64) -> u64
-    requires { InWord (format fraction exponent) × (x < 2 * sign_bit (format fraction exponent)) }
-    ensures { (result ≡ rank (format fraction exponent) x) × (result < 2 * sign_bit (format fraction exponent)) }
+pub fn rank<P: Pattern>(x: u64) -> u64
+    requires { x < 2 * sign_bit P.format }
+    ensures { (result ≡ rank P.format x) × (result < 2 * sign_bit P.format) }
 {
-    let sign = sign_bit(fraction, exponent);
-    if x < sign {
-        sign + x
-    } else {
-        sign - (x - sign)
-    }
+    let sign = sign_bit::<P>();
+    // With a minus sign the number wraps below zero, and the sum brings it back.
+    let number = if x < sign { x } else { sign.wrapping_sub(x) };
+    sign.wrapping_add(number)
 }
 
 // How far the leading one of m stands below the place of a normal number's: the one way that a number comes to its leading one.
@@ -113,17 +125,25 @@ pub fn leading_shift(fraction: u64, m: u64) -> u64
     u64::leading_zeros(m) as u64 - (63 - fraction)
 }
 
+// The same of a format's numbers.
+pub fn normal_shift<P: Pattern>(m: u64) -> u64
+    requires { (0 < m) × (m < 2 * 2 ^ P.format.fraction) }
+    ensures { (result ≤ P.format.fraction) × (2 ^ P.format.fraction ≤ m * 2 ^ result) × (m * 2 ^ result < 2 * 2 ^ P.format.fraction) × (result ≡ leading_shift P.format.fraction m) }
+{
+    leading_shift(P::fraction_bits(), m)
+}
+
 // The pattern, without a sign, of m * 2^scale units.
-pub fn encoded(fraction: u64, exponent: u64, m: u64, scale: u64) -> u64
-    requires { InWord (format fraction exponent) × (m < 2 * 2 ^ fraction) × (scale < top_field (format fraction exponent)) }
-    ensures { (result ≡ encode fraction (m * 2 ^ scale)) × (result < sign_bit (format fraction exponent)) }
+pub fn encoded<P: Pattern>(m: u64, scale: u64) -> u64
+    requires { (m < 2 * 2 ^ P.format.fraction) × (scale < top_field P.format) }
+    ensures { (result ≡ encode P.format.fraction (m * 2 ^ scale)) × (result < sign_bit P.format) }
 {
     if m == 0 {
         return 0;
     }
-    let k = leading_shift(fraction, m);
+    let k = normal_shift::<P>(m);
     let shift = if k < scale { k } else { scale };
-    (scale - shift) * power(fraction) + m * power(shift)
+    (scale - shift) * unit::<P>() + m * power(shift)
 }
 
 // m / 2^d rounded, halves to even. Half of the unit is added before the shift, less one where the quotient is even, so that a tie

@@ -4,18 +4,15 @@
 use mathlib.Core.Path.{◌≡◌, refl, ap, sym, ◌∙◌}
 use mathlib.Core.Bool.{Bool, true, false, cond}
 use mathlib.Core.List.{List, [], ◌∷◌, ◌++◌}
-use mathlib.Core.Logic.{◌⊎◌, ⊎_elim}
+use mathlib.Core.Logic.{⊎_elim}
 use Prim.Native.Nat.{ℕ, suc, ◌+◌, ◌-◌, ◌*◌, ◌%◌, ◌^◌, ◌≤◌, ◌<◌}
 use native.Mathlib.Omega.{arith}
 use native.Mathlib.Numerals.{add-one}
 use lib.ListN.{length, take, drop, set, get_or, replicate, length-set, get_or-replicate, get_or-eq_default}
 use lib.Seq.{get_or-take, get_or-set_other, length-take-le}
 use Rattle.hexadecimal.specs.Hex.{field_of, word_field}
-use Rattle.hexadecimal.specs.declared.Field.{Field}
-use Rattle.hexadecimal.specs.declared.Field.TheVariants.{Value, Malformed as Bad}
+use Rattle.std.specs.Prelude.{Option, Some, None}
 use Rattle.hexadecimal.proofs.Laws.{word_part}
-use Rattle.recipe.specs.declared.Row.{Row}
-use Rattle.recipe.specs.declared.Row.TheVariants.{Unknown, Input, Constant, Unary, Binary}
 use Rattle.recipe.specs.declared.Step.{Step}
 use Rattle.recipe.specs.Table.{row_of, is_input}
 use Rattle.recipe.specs.Text.{inputs_in}
@@ -57,16 +54,16 @@ counting_more w n next i g h t q m e b =
 -- ---- the words
 
 -- what the 16 digits of input k come to
-pub field_at : (s : List ℕ) (k : ℕ) → k * 16 + 16 ≤ length s → {x f : Field} → x ≡ word_field (take (k * 16 + 16 - k * 16) (drop (k * 16) s)) → x ≡ f → field_of s (k * 16) 16 0 ≡ f
+pub field_at : (s : List ℕ) (k : ℕ) → k * 16 + 16 ≤ length s → {x f : Option ℕ} → x ≡ word_field (take (k * 16 + 16 - k * 16) (drop (k * 16) s)) → x ≡ f → field_of s (k * 16) 16 0 ≡ f
 field_at s k h e d =
     let n : k * 16 + 16 - k * 16 ≡ 16 = omega arith in
     rw n at (word_part s (k * 16) (k * 16 + 16) (omega arith) h (omega arith) e d)
 
-field_good : (s : List ℕ) (m k : ℕ) (l : List ℕ) (w : ℕ) → field_of s (k * 16) 16 0 ≡ Value w → words_from s (suc m) k l ≡ words_from s m (suc k) (l ++ (w ∷ []))
+field_good : (s : List ℕ) (m k : ℕ) (l : List ℕ) (w : ℕ) → field_of s (k * 16) 16 0 ≡ Some w → words_from s (suc m) k l ≡ words_from s m (suc k) (l ++ (w ∷ []))
 unfolding words_from on_field
 field_good s m k l w e = ap (λ x. on_field x (λ w. words_from s m (suc k) (l ++ (w ∷ [])))) e
 
-field_bad : (s : List ℕ) (m k : ℕ) (l : List ℕ) → field_of s (k * 16) 16 0 ≡ Bad → words_from s (suc m) k l ≡ refused 31 0
+field_bad : (s : List ℕ) (m k : ℕ) (l : List ℕ) → field_of s (k * 16) 16 0 ≡ None → words_from s (suc m) k l ≡ refused 31 0
 unfolding words_from on_field
 field_bad s m k l e = ap (λ x. on_field x (λ w. words_from s m (suc k) (l ++ (w ∷ [])))) e
 
@@ -96,7 +93,7 @@ collecting_start s n =
     }
 
 module _ (s : List ℕ) (n : ℕ) (held : List ℕ) (i : ℕ) (g : Collecting s n held i) where
-  pub collecting_more : i < n → n ≤ 16 → (w : ℕ) → field_of s (i * 16) 16 0 ≡ Value w → Collecting s n (set held i w) (i + 1)
+  pub collecting_more : i < n → n ≤ 16 → (w : ℕ) → field_of s (i * 16) 16 0 ≡ Some w → Collecting s n (set held i w) (i + 1)
   collecting_more h m w e =
       let k : i < length held = omega (arith, g.long) in
       let f : n - i ≡ suc (n - (i + 1)) = omega arith in
@@ -107,7 +104,7 @@ module _ (s : List ℕ) (n : ℕ) (held : List ℕ) (i : ℕ) (g : Collecting s 
         same = g.same ∙ rw (f, grow held i w k, add-one) (field_good s (n - suc i) i (take i held) w e);
       }
 
-  pub collecting_bad : i < n → field_of s (i * 16) 16 0 ≡ Bad → words_from s n 0 [] ≡ refused 31 0
+  pub collecting_bad : i < n → field_of s (i * 16) 16 0 ≡ None → words_from s n 0 [] ≡ refused 31 0
   collecting_bad h e =
       let f : n - i ≡ suc (n - (i + 1)) = omega arith in
       g.same ∙ rw f (field_bad s (n - (i + 1)) i (take i held) e)
@@ -125,23 +122,7 @@ module _ (s : List ℕ) (n : ℕ) (held : List ℕ) (i : ℕ) (g : Collecting s 
       (λ (q : i ≤ k). g.rest k q ∙ sym (get_or-eq_default (take i held) 0 {n = k} (omega arith)))
       (lt_or_ge k i)
 
--- the word of input k, fetched where there is room for it
-pub word_at : (held : List ℕ) (k w : ℕ) → length held ≡ 16 → ((k < 16) × (w ≡ get_or held k 0)) ⊎ ((16 ≤ k) × (w ≡ 0)) → w ≡ get_or held k 0
-word_at held k w e c =
-    ⊎_elim
-    (λ p. p.1)
-    (λ p. let h = p.0 in p.1 ∙ sym (get_or-eq_default held 0 {n = k} (omega arith)))
-    c
-
 -- ---- the ranges
-
--- only an input can be outside
-pub plain_inside : (r : Row) (t : Step) (w : ℕ) → is_input r ≡ false → outside r t w ≡ false
-plain_inside Unknown t w e = refl
-plain_inside (Input k) t w e = let z : ◌≡◌ {A = ℕ} 0 1 = cc in absurd (omega arith)
-plain_inside (Constant k) t w e = refl
-plain_inside (Unary a k) t w e = refl
-plain_inside (Binary a b k) t w e = refl
 
 range_good : (t : Step) (l : List Step) (k j : ℕ) (ws : List ℕ) → outside (row_of t.opcode) t (get_or ws j 0) ≡ false
     → ranged (t ∷ l) k j ws ≡ ranged l (suc k) (cond (is_input (row_of t.opcode)) 1 0 + j) ws

@@ -1,26 +1,19 @@
 // Reading a frame for a recipe's inputs: the words, and refusals 30 to 32 (document 01, "Turning text down").
 #![tactic(auto)]
 
-ghost use Rattle.std.specs.Prelude.{◌≡◌, cond, List, [], ℕ, ◌+◌, ◌*◌, ◌%◌, ◌^◌, ◌≤◌, length};
+ghost use Rattle.std.specs.Prelude.{◌≡◌, cond, List, [], ℕ, ◌+◌, ◌*◌, ◌/◌, ◌%◌, ◌^◌, ◌≤◌, get_or, length};
 ghost use Rattle.recipe.specs.Table.{row_of, is_input};
-ghost use Rattle.recipe.specs.Text.{most_steps, inputs_in};
-ghost use Rattle.recipe.specs.Packed.{steps_in};
+ghost use Rattle.recipe.specs.Text.{inputs_in};
+ghost use Rattle.recipe.specs.Packed.{steps_of};
 ghost use Rattle.semantics.specs.Frame.{words_from, outside, ranged};
 ghost use Rattle.frame.specs.Stages.{Same, Read, ranged_by};
 
-use float_format::Binary64;
-use hexadecimal::Field;
+use calls::Refused;
+use float_format::Pattern;
 use recipe::{InputNumber, Kind, Row, Step, StepNumber};
+use steps::Steps;
 use steps::order::{double_above, whole_above};
 use steps::table::{declares_input, row_of};
-use steps::{any, step_at};
-
-// The words of a frame's inputs, and 0 in the places past them; or that some byte is no lower-case hexadecimal digit.
-#[derive(Clone, Copy)]
-pub struct Inputs {
-    pub words: [u64; 16],
-    pub malformed: bool,
-}
 
 // The number of the next input after a step with this opcode: the one after n where the step is an input, else still n. Numbers have 16 bits and
 // wrap, at a number of steps that no recipe has.
@@ -33,46 +26,31 @@ pub fn next_input(n: InputNumber, opcode: u8) -> InputNumber
     n
 }
 
-// How many of the first n steps are inputs.
-pub fn input_total(steps: &[u64], n: usize) -> usize
-    requires { (n ≤ most_steps) × (3 * n ≤ length steps.now) }
-    ensures { (result ≡ inputs_in (steps_in steps.now n)) × (result ≤ n) }
+// How many of the steps are inputs.
+pub fn input_total(steps: Steps) -> usize
+    ensures { (result ≡ inputs_in (steps_of steps.entry.words.now)) × (result ≤ length steps.entry.words.now / 3) }
 {
     let mut next = InputNumber(0);
-    let mut i: usize = 0;
-    while i < n {
-        let t = step_at(steps, i);
-        next = next_input(next, t.opcode);
-        i += 1;
+    for i in 0..steps.len() {
+        next = next_input(next, steps.at(i).opcode);
     }
     next.0 as usize
 }
 
-// The words of a frame of n inputs, 16 digits each.
-pub fn read_words(frame: &[u8], n: usize) -> Inputs
+// The words of a frame of n inputs, 16 digits each, and 0 in the places past them.
+pub fn read_words(frame: &[u8], n: usize) -> Result<[u64; 16], Refused>
     requires { (n * 16 ≤ length frame.now) × (n ≤ 16) }
     ensures { Read (words_from frame.now n 0 []) result }
 {
     let mut words = [0u64; 16];
-    let mut i: usize = 0;
-    while i < n {
+    for i in 0..n {
         let at = i * 16;
-        let w = match hexadecimal::read(&frame[at..at + 16]) {
-            Field::Value(w) => w,
-            Field::Malformed => {
-                return Inputs {
-                    words,
-                    malformed: true,
-                };
-            }
+        let Some(w) = hexadecimal::read(&frame[at..at + 16]) else {
+            return Err(Refused::FrameDigit);
         };
         words[i] = w;
-        i += 1;
     }
-    Inputs {
-        words,
-        malformed: false,
-    }
+    Ok(words)
 }
 
 // Whether w is not a value that the step t, of the row, declares: a NaN, or outside P to Q. Of a step that is no input, false.
@@ -84,11 +62,8 @@ fn is_outside(row: Row, t: Step, w: u64) -> bool
     match row {
         Row::Unknown => false,
         Row::Input(k) => match k {
-            Kind::Double => any(
-                any(Binary64::is_nan(w), double_above(p, w)),
-                double_above(w, q),
-            ),
-            Kind::Whole => any(whole_above(p, w), whole_above(w, q)),
+            Kind::Double => w.is_nan() | double_above(p, w) | double_above(w, q),
+            Kind::Whole => whole_above(p, w) | whole_above(w, q),
         },
         Row::Constant(_) => false,
         Row::Unary(_, _) => false,
@@ -107,29 +82,24 @@ fn is_refused(t: Step, w: u64) -> bool
     false
 }
 
-// What a frame's words are against the declared ranges: all within, or the step of the first input that is outside its own.
-#[derive(Drop)]
-pub enum Ranges {
-    Within,
-    Outside(StepNumber),
+// The word of an input, of those that were read; 0 past them.
+pub fn input_word(inputs: &[u64; 16], n: InputNumber) -> u64
+    ensures { result ≡ get_or inputs.now n.0 0 }
+{
+    inputs.get(n.0 as usize).copied().unwrap_or(0)
 }
 
-// Holds the inputs' words to the ranges that the first n steps declare.
-pub fn check_ranges(steps: &[u64], n: usize, inputs: Inputs) -> Ranges
-    requires { (n ≤ most_steps) × (3 * n ≤ length steps.now) }
-    ensures { (ws : List ℕ) → Same inputs.words ws → ranged (steps_in steps.now n) 0 0 ws ≡ ranged_by result ws }
+// Holds the inputs' words to the ranges that the steps declare.
+pub fn check_ranges(steps: Steps, inputs: &[u64; 16]) -> Result<(), Refused>
+    ensures { (ws : List ℕ) → Same inputs.now ws → ranged (steps_of steps.entry.words.now) 0 0 ws ≡ ranged_by result ws }
 {
     let mut next = InputNumber(0);
-    let mut i: usize = 0;
-    while i < n {
-        let t = step_at(steps, i);
-        let k = next.0 as usize;
-        let w = if k < 16 { inputs.words[k] } else { 0 };
-        if is_refused(t, w) {
-            return Ranges::Outside(StepNumber(i as u16));
+    for i in 0..steps.len() {
+        let t = steps.at(i);
+        if is_refused(t, input_word(inputs, next)) {
+            return Err(Refused::Outside(StepNumber(i as u16)));
         }
         next = next_input(next, t.opcode);
-        i += 1;
     }
-    Ranges::Within
+    Ok(())
 }

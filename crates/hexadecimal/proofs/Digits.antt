@@ -12,7 +12,7 @@ use lib.ListN.{length, length-append, length-set, get_or, set, drop}
 use lib.Seq.{drop-cons, drop-set-lt, get_or-set_same}
 use borrow.Author.Tests.{lt-ltb, le-ltb, le-leb, lt-leb, ltb-true, ltb-false}
 use Rattle.hexadecimal.specs.Hex.{digit_of, field_of, glyph_of, digits}
-use Rattle.hexadecimal.specs.declared.Field.TheVariants.{Value, Malformed}
+use Rattle.std.specs.Prelude.{Some, None}
 
 pub by_test : (m n : ℕ) (b : Bool) → ltb m n ≡ b → (m < n) ⊎ (n ≤ m)
 by_test m n true e = inl (ltb-true m n e)
@@ -60,7 +60,7 @@ digit_glyph d h =
 
 -- ---- reading
 
-pub bad_suc : (s : List ℕ) (at n a : ℕ) → 15 < digit_of (get_or s at 0) → field_of s at (suc n) a ≡ Malformed
+pub bad_suc : (s : List ℕ) (at n a : ℕ) → 15 < digit_of (get_or s at 0) → field_of s at (suc n) a ≡ None
 unfolding field_of
 bad_suc s at n a h = rw (field_of, lt-ltb 15 (digit_of (get_or s at 0)) h)
 
@@ -68,12 +68,12 @@ pub good_suc : (s : List ℕ) (at n a : ℕ) → digit_of (get_or s at 0) ≤ 15
 unfolding field_of
 good_suc s at n a h = rw (field_of, le-ltb 15 (digit_of (get_or s at 0)) h)
 
-pub done_zero : (s : List ℕ) (at a : ℕ) → field_of s at 0 a ≡ Value a
+pub done_zero : (s : List ℕ) (at a : ℕ) → field_of s at 0 a ≡ Some a
 unfolding field_of
 done_zero s at a = refl
 
 module _ (s : List ℕ) (n i a : ℕ) where
-  pub field_bad : i < n → 15 < digit_of (get_or s i 0) → field_of s i (n - i) a ≡ Malformed
+  pub field_bad : i < n → 15 < digit_of (get_or s i 0) → field_of s i (n - i) a ≡ None
   field_bad h d =
       let e : n - i ≡ suc (n - (i + 1)) = omega arith in
       rw e (bad_suc s i (n - (i + 1)) a d)
@@ -84,7 +84,7 @@ module _ (s : List ℕ) (n i a : ℕ) where
       let e : n - i ≡ suc (n - (i + 1)) = omega arith in
       rw (e, add-one) (good_suc s i (n - suc i) a d)
 
-  pub field_done : n ≤ i → field_of s i (n - i) a ≡ Value a
+  pub field_done : n ≤ i → field_of s i (n - i) a ≡ Some a
   field_done h =
       let e : n - i ≡ 0 = omega arith in
       rw e (done_zero s i a)

@@ -12,23 +12,22 @@ use lib.ListN.{length, length-drop, get_or, take, drop}
 use lib.Seq.{length-take-le, get_or-append-add, get_or_at, get_or-take, get_or-drop}
 use borrow.Author.Tests.{lt-ltb, le-ltb}
 use Rattle.hexadecimal.specs.Hex.{digit_of, field_of, word_field, glyph_of, digits}
-use Rattle.hexadecimal.specs.declared.Field.{Field}
-use Rattle.hexadecimal.specs.declared.Field.TheVariants.{Value, Malformed}
+use Rattle.std.specs.Prelude.{Option, Some, None}
 use Rattle.hexadecimal.proofs.Digits.{by_test, digit_glyph, bad_suc, good_suc, done_zero, digits_more, length_digits}
 
 -- ---- how large
 
 -- n digits after digits of a value below 16 ^ j have a value below 16 ^ (j + n)
-pub field_below_after : (s : List ℕ) (n at j a v : ℕ) → a < 16 ^ j → field_of s at n a ≡ Value v → v < 16 ^ (j + n)
+pub field_below_after : (s : List ℕ) (n at j a v : ℕ) → a < 16 ^ j → field_of s at n a ≡ Some v → v < 16 ^ (j + n)
 field_below_after s zero at j a v h e =
-    let p : Value a ≡ Value v = sym (done_zero s at a) ∙ e in
+    let p : Some a ≡ Some v = sym (done_zero s at a) ∙ e in
     let q : a ≡ v = cc in
     let f : j + 0 ≡ j = omega arith in
     rw f (rw q at h)
 field_below_after s (suc n) at j a v h e =
     ⊎_elim
     (λ d.
-    let p : Malformed ≡ Value v = sym (bad_suc s at n a d) ∙ e in
+    let p : None ≡ Some v = sym (bad_suc s at n a d) ∙ e in
     let z : ◌≡◌ {A = ℕ} 0 1 = cc in omega arith)
     (λ d.
     let f : j + suc n ≡ (j + 1) + n = omega arith in
@@ -36,7 +35,7 @@ field_below_after s (suc n) at j a v h e =
     (by_test 15 (digit_of (get_or s at 0)) (ltb 15 (digit_of (get_or s at 0))) refl)
 
 -- the value of n digits is below 16 ^ n
-pub field_below : (s : List ℕ) (at n v : ℕ) → field_of s at n 0 ≡ Value v → v < 16 ^ n
+pub field_below : (s : List ℕ) (at n v : ℕ) → field_of s at n 0 ≡ Some v → v < 16 ^ n
 field_below s at n v e = let f : 0 + n ≡ n = omega arith in rw f at (field_below_after s n at 0 0 v (omega arith) e)
 
 -- ---- in a part of the text
@@ -61,12 +60,12 @@ pub word_field_lem : (s : List ℕ) → length s ≤ 16 → word_field s ≡ fie
 unfolding word_field
 word_field_lem s h = simp (le-ltb 16 (length s) h)
 
-pub word_field_long : (s : List ℕ) → 16 < length s → word_field s ≡ Malformed
+pub word_field_long : (s : List ℕ) → 16 < length s → word_field s ≡ None
 unfolding word_field
 word_field_long s h = simp (lt-ltb 16 (length s) h)
 
 -- what the bytes of s from `at` up to `end`, read as a word, come to
-pub word_part : (s : List ℕ) (at end : ℕ) → at ≤ end → end ≤ length s → end ≤ at + 16 → {x f : Field} → x ≡ word_field (take (end - at) (drop at s)) → x ≡ f
+pub word_part : (s : List ℕ) (at end : ℕ) → at ≤ end → end ≤ length s → end ≤ at + 16 → {x f : Option ℕ} → x ≡ word_field (take (end - at) (drop at s)) → x ≡ f
     → field_of s at (end - at) 0 ≡ f
 word_part s at end g h k e d =
     let n : ℕ = end - at in
@@ -111,12 +110,12 @@ read_digits (suc k) m n a p q h =
     ∙ ap (field_of s (length p + suc k) m) v)
 
 -- the k digits of a number that has no more, wherever they stand, are read as that number
-pub read_written : (k n : ℕ) (p q : List ℕ) → n < 16 ^ k → field_of (p ++ (digits k n ++ q)) (length p) k 0 ≡ Value n
+pub read_written : (k n : ℕ) (p q : List ℕ) → n < 16 ^ k → field_of (p ++ (digits k n ++ q)) (length p) k 0 ≡ Some n
 read_written k n p q h =
     let s : List ℕ = p ++ (digits k n ++ q) in
     let e : k ≡ k + 0 = omega arith in
     let v : 0 * 16 ^ k + n ≡ n = omega arith in
-    ap (λ (j : ℕ). field_of s (length p) j 0) e ∙ read_digits k 0 n 0 p q h ∙ done_zero s (length p + k) (0 * 16 ^ k + n) ∙ ap Value v
+    ap (λ (j : ℕ). field_of s (length p) j 0) e ∙ read_digits k 0 n 0 p q h ∙ done_zero s (length p + k) (0 * 16 ^ k + n) ∙ ap Some v
 
 -- ---- fields side by side
 

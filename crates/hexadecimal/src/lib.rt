@@ -4,13 +4,6 @@
 ghost use Rattle.std.specs.Prelude.{◌≡◌, ◌<◌, length};
 ghost use Rattle.hexadecimal.specs.Hex.{digit_of, word_field, glyph_of, digits};
 
-// What a field of digits says.
-#[derive(Drop)]
-pub enum Field {
-    Value(u64),
-    Malformed,
-}
-
 // The digit's value, and 16 of any other byte. The distances from `0` and from `a` wrap at 256, so that one comparison tells each row of
 // digits, and nothing branches on the byte: digits and letters come in no order that a processor could foresee.
 fn digit(b: u8) -> u64
@@ -24,25 +17,22 @@ fn digit(b: u8) -> u64
     if n < 10 { n } else { other }
 }
 
-// The digits of s, as one field. More than 16 are malformed, since a word may have no room for their value.
-pub fn read(s: &[u8]) -> Field
+// The number that the digits of s make, if all of its bytes are digits. More than 16 make none, since a word may have no room for their value.
+pub fn read(s: &[u8]) -> Option<u64>
     ensures { result ≡ word_field s.now }
 {
-    let n = s.len();
-    if n > 16 {
-        return Field::Malformed;
+    if s.len() > 16 {
+        return None;
     }
     let mut value: u64 = 0;
-    let mut i: usize = 0;
-    while i < n {
-        let d = digit(s[i]);
+    for b in s {
+        let d = digit(*b);
         if d > 15 {
-            return Field::Malformed;
+            return None;
         }
         value = value * 16 + d;
-        i += 1;
     }
-    Field::Value(value)
+    Some(value)
 }
 
 // The digit of the value d, without a test: from ten on, (d + 6) / 16 is 1, and the letters stand 39 places after where the figures would go
@@ -59,9 +49,7 @@ pub fn write(n: u64, out: &mut [u8])
     ensures { out.new ≡ digits (length out.old) n }
 {
     let mut rest = n;
-    let mut i = out.len();
-    while i > 0 {
-        i -= 1;
+    for i in (0..out.len()).rev() {
         out[i] = glyph(rest % 16);
         rest /= 16;
     }

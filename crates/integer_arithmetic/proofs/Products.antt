@@ -2,8 +2,8 @@
 use mathlib.Core.Path.{◌≡◌, refl, sym, ap, ◌∙◌}
 use mathlib.Core.Bool.{Bool}
 use mathlib.Core.Logic.{inr}
-use Prim.Native.Nat.{ℕ, ◌+◌, ◌-◌, ◌*◌, ◌/◌, ◌%◌, ◌^◌, ◌≤◌, ◌<◌}
-use native.Mathlib.Nat.{mul_assoc, mul-le-mul, mul-le-mul_right, mul-lt-mul_of_pos_right, div-add-mod'}
+use Prim.Native.Nat.{ℕ, ◌+◌, ◌-◌, ◌*◌, ◌^◌, ◌≤◌, ◌<◌}
+use native.Mathlib.Nat.{mul_assoc, mul-le-mul, mul-le-mul_right, mul-lt-mul_of_pos_right}
 use native.Mathlib.Omega.{arith}
 use lib.Pow.{pow_pos}
 use lib.Ieee.{unlike}
@@ -17,55 +17,6 @@ use Rattle.float_format.proofs.Rounded.{rounded_scale}
 use Rattle.integer_arithmetic.specs.Stands.{Fits, Sticky, Stands, Led}
 use Rattle.integer_arithmetic.proofs.Packing.{zero_rounded}
 use Rattle.integer_arithmetic.proofs.Sums.{sticky_scale, sticky_high}
-
--- ---- by halves of 27 bits
-
-abbrev C : ℕ
-C = 134217728
-
--- what the code computes fits, and is the product in parts of 2 ^ 44 with m0 and l0 left
-pub record Halves (a b low mid w : ℕ) : Type 0 where
-  pub low_lt : low < 2 ^ 54
-  pub left_lt : a / C * (b % C) < 2 ^ 53
-  pub right_lt : a % C * (b / C) < 2 ^ 53
-  pub mid_lt : mid < 2 ^ 55
-  pub top_lt : a / C * (b / C) < 2 ^ 52
-  pub is : a * b ≡ w * 2 ^ 44 + mid % 131072 * C + low % C
-  pub upto : w < 2 ^ 62
-
-times_lt : (a b c d : ℕ) → a < c → b < d → a * b < c * d
-times_lt a b c d h l =
-    let u : a * b ≤ a * d = mul-le-mul {n₁ = a} {m₁ = b} {n₂ = a} {m₂ = d} (omega arith) (omega arith) in
-    omega (arith, mul-lt-mul_of_pos_right {m = a} {n = c} {k = d} h (omega arith))
-
-pub halves : (a b low mid w : ℕ) → a < 2 ^ 53 → b < 2 ^ 53 → low ≡ a % C * (b % C) → mid ≡ a / C * (b % C) + a % C * (b / C) + low / C
-    → w ≡ a / C * (b / C) * 1024 + mid / 131072 → Halves a b low mid w
-halves a b low mid w ha hb el em ew =
-    let a1 : ℕ = a / C in
-    let a0 : ℕ = a % C in
-    let b1 : ℕ = b / C in
-    let b0 : ℕ = b % C in
-    let x : a1 < 2 ^ 26 = omega arith in
-    let y : b1 < 2 ^ 26 = omega arith in
-    let s : a0 < C = omega arith in
-    let t : b0 < C = omega arith in
-    let i : a0 * b0 < C * C = times_lt a0 b0 C C s t in
-    let j : a1 * b0 < 2 ^ 26 * C = times_lt a1 b0 (2 ^ 26) C x t in
-    let k : a0 * b1 < C * 2 ^ 26 = times_lt a0 b1 C (2 ^ 26) s y in
-    let l : a1 * b1 < 2 ^ 26 * 2 ^ 26 = times_lt a1 b1 (2 ^ 26) (2 ^ 26) x y in
-    let ea : a1 * C + a0 ≡ a = div-add-mod' a C in
-    let eb : b1 * C + b0 ≡ b = div-add-mod' b C in
-    let ab : a * b ≡ (a1 * C + a0) * (b1 * C + b0) = sym (ap (λ (z : ℕ). z * (b1 * C + b0)) ea ∙ ap (λ (z : ℕ). a * z) eb) in
-    let e : a * b ≡ w * 2 ^ 44 + mid % 131072 * C + low % C = omega arith in
-    record {
-      low_lt = omega arith;
-      left_lt = omega arith;
-      right_lt = omega arith;
-      mid_lt = omega arith;
-      top_lt = omega arith;
-      is = e;
-      upto = omega (arith, times_lt a b (2 ^ 53) (2 ^ 53) ha hb);
-    }
 
 -- ---- the whole product
 

@@ -9,6 +9,7 @@ use lib.Pow.{pow_pos, pow_mono, pow-add}
 use lib.Ieee.{unlike}
 use Rattle.float_format.specs.Format.{Format, sign_bit, infinity, negative, signed}
 use Rattle.float_format.specs.Number.{magnitude}
+use Rattle.float_format.specs.Width.{InWord, Wide}
 use Rattle.float_format.proofs.Units.{lt_or_ge, magnitude_at, magnitude-low, magnitude_mono_le}
 use Rattle.float_format.proofs.Nearby.{magnitude_small}
 use Rattle.float_format.proofs.Sizes.{sizes, zero_is}
@@ -133,6 +134,11 @@ led_normal f a m scale z g p =
         let none : scale ≡ 0 = omega arith in
         let e : magnitude f.fraction a ≡ m = p.units ∙ ap (λ (k : ℕ). m * 2 ^ k) none ∙ omega arith in
         omega (arith, magnitude_mono_le f.fraction g, magnitude_small f.fraction (2 ^ f.fraction) (omega arith))
+
+-- ---- what a wide format promises
+
+pub wide_fits : (f : Format) → InWord f → Wide f → Fits f
+wide_fits f w z = record { word = w; short = z.spare; few = z.few }
 
 -- ---- signs, by the zero of each
 

@@ -1,5 +1,7 @@
 -- Powers of two by the binary digits of the exponent n, and m * 2^n modulo 8 * w from a residue of w's multiple w * 2^k. Assumes nothing.
-use Rattle.std.proofs.Common.{◌≡◌, ℕ, suc, ◌+◌, ◌-◌, ◌*◌, ◌/◌, ◌%◌, ◌^◌, ◌<◌, ◌≤◌, sym, ap, ◌∙◌, ⊎_elim, mod-eq_of_lt, mul_assoc, mul_comm, mul-le-mul, div-add-mod', le-div_iff_mul-le, mul-div_cancel, arith, pow_pos, pow_mono, pow-add, shr-shr}
+use Rattle.std.proofs.Common.{◌≡◌, ℕ, suc, ◌+◌, ◌-◌, ◌*◌, ◌/◌, ◌%◌, ◌^◌, ◌<◌, ◌≤◌, sym, ap, ◌∙◌, ⊎_elim, mod-eq_of_lt, mul_assoc, mul_comm, mul-le-mul, div-add-mod', mul-div_cancel, arith, pow_pos, pow_mono, pow-add, shr-shr, shr_lt}
+use native.Mathlib.Nat.{zero-div}
+use lib.Count.{count_leading_zeros, leading_top}
 use Rattle.float_format.proofs.Parts.{mod_scale}
 use Rattle.float_format.proofs.Units.{lt_or_ge}
 use Rattle.remainder.proofs.Turn.{rem_rem}
@@ -8,11 +10,17 @@ use Rattle.modular.proofs.Residues.{products}
 
 -- ---- the digits of n
 
-pub past_lt : (n k : ℕ) → n < 2 ^ 64 → 54 < n / 2 ^ k → k < 59
-past_lt n k l h = ⊎_elim (λ g. g) (λ g. absurd (far g)) (lt_or_ge k 59)
+-- a word's leading zeros, and with them all of its digits but six left out, or but five
+pub past_at : (n k : ℕ) → n < 2 ^ 64 → k ≡ 58 - count_leading_zeros 64 n → 54 < n / 2 ^ k → (k + 1 < 64) × (n / 2 ^ (k + 1) ≤ 54)
+past_at n k l e h = found (leading_top 64 n (⊎_elim (λ g. g) (λ g. absurd (none (omega arith))) (lt_or_ge 0 n)) l)
   where
-    far : 59 ≤ k → ⊥
-    far g = omega (arith, (le-div_iff_mul-le {k = 2 ^ k} {x = 55} {y = n} (pow_pos k)).0 (omega arith), pow_mono {i = 59} {j = k} g)
+    none : n ≡ 0 → ⊥
+    none z = omega (arith, h, ap (λ (i : ℕ). i / 2 ^ k) z ∙ zero-div (2 ^ k))
+
+    found : (j : ℕ) × (count_leading_zeros 64 n + suc j ≡ 64) × (2 ^ j ≤ n) × (n < 2 ^ suc j) → (k + 1 < 64) × (n / 2 ^ (k + 1) ≤ 54)
+    found t =
+        let six : suc t.0 ≤ 5 + (k + 1) = omega (arith, t.1) in
+        (omega arith, omega (arith, shr_lt {n = n} 5 (k + 1) (omega (arith, t.3, pow_mono {i = suc t.0} {j = 5 + (k + 1)} six))))
 
 -- the leading digits alone: the power is below every modulus
 pub leading_power : (n k d inverse : ℕ) → Modulus d inverse → n / 2 ^ k ≤ 54 → 2 ^ (n / 2 ^ k) ≡ 2 ^ (n / 2 ^ k) % d

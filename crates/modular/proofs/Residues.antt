@@ -1,17 +1,13 @@
--- Residues: a sum and a product have the remainder that the sum and the product of remainders have; a number below twice d has it after one
--- subtraction; a difference is known from its low words. d is the modulus, c cuts a factor into halves. Assumes nothing.
+-- Residues: a sum and a product have the remainder that the sum and the product of remainders have; a number has it without a multiple of d too; a
+-- difference is known from its low words. d is the modulus, c cuts a factor into halves. Assumes nothing.
 use Rattle.std.proofs.Common.{◌≡◌, ℕ, ◌+◌, ◌-◌, ◌*◌, ◌/◌, ◌%◌, ◌^◌, ◌<◌, ◌≤◌, sym, ap, ◌∙◌, mod-eq_of_lt, mul_comm, mul-le-mul_left, div-add-mod', arith, pow_mono}
 use native.Mathlib.Nat.{mul-add-mod_self_right}
-use lib.Arith.{digits_mod}
 use Rattle.remainder.proofs.Turn.{rem_rem}
 
--- ---- one subtraction
+-- ---- multiples taken away
 
-pub none_off : {n d : ℕ} → n < d → n ≡ n % d
-none_off l = sym (mod-eq_of_lt l)
-
-pub one_off : {n d : ℕ} → d ≤ n → n < 2 * d → n - d ≡ n % d
-one_off {n} {d} g l = sym (ap (λ (k : ℕ). k % d) {x = n} {y = 1 * d + (n - d)} (omega arith) ∙ digits_mod 1 (omega arith))
+pub without : (n q d : ℕ) → q * d ≤ n → (n - q * d) % d ≡ n % d
+without n q d h = sym (ap (λ (k : ℕ). k % d) {x = n} {y = q * d + (n - q * d)} (omega arith) ∙ mul-add-mod_self_right q d (n - q * d))
 
 -- ---- sums and products of remainders
 
@@ -46,14 +42,9 @@ halves_product x y c d h l t eh el et =
 
 -- ---- low words
 
-pub low_halves : (x y c m : ℕ) → (x / c * y * c % m + x % c * y) % m ≡ x * y % m
-low_halves x y c m =
-    sum_left (x / c * y * c) (x % c * y) m
-    ∙ ap (λ (k : ℕ). k % m) (omega (arith, ap (λ (k : ℕ). k * y) (div-add-mod' x c)))
-
 -- n - p from the low words of n and p
-pub difference : (n p r : ℕ) → p ≤ n → n - p < 2 ^ 64 → r < 2 ^ 64 → (r + p % 2 ^ 64) % 2 ^ 64 ≡ n % 2 ^ 64 → r ≡ n - p
-difference n p r h few l e = omega arith
+pub difference : (n p : ℕ) → p ≤ n → n - p < 2 ^ 64 → (n % 2 ^ 64 + (2 ^ 64 - p % 2 ^ 64)) % 2 ^ 64 ≡ n - p
+difference n p h few = omega arith
 
 -- ---- a binary digit more
 

@@ -11,78 +11,82 @@ ghost use Rattle.modular.specs.Modulus.{Modulus};
 
 use float_format::width::{leading_shift, power};
 
-// x * y, modulo 2^64.
-fn low_product(x: u64, y: u64) -> u64
-    requires { (x < 2 ^ 57) × (y < 2 ^ 30) }
-    ensures { result ≡ x * y % 2 ^ 64 }
-{
-    let high = (x >> 28) * y;
-    let low = x % 0x1000_0000 * y;
-    std::num::wrapping_add_u64(high << 28, low)
+// What products are taken modulo, with its reciprocal. In the methods, a residue is a number below it.
+#[derive(Clone, Copy)]
+struct Divisor {
+    number: u64,
+    inverse: u64,
+    ghost formed: { Modulus number inverse },
 }
 
-// x * y % d, for a half y of a residue.
-fn reduced(x: u64, y: u64, d: u64, inverse: u64) -> u64
-    requires { Modulus d inverse × (x < d) × (y ≤ 2 ^ 28) }
-    ensures { result ≡ x * y % d }
-{
-    let high = ((x >> 25) * y) >> 28;
-    let quotient = (high * inverse) >> 34;
-    let left = std::num::wrapping_sub_u64(low_product(x, y), low_product(d, quotient));
-    if left >= d { left - d } else { left }
+impl Divisor {
+    fn of(number: u64) -> Divisor
+        requires { (2 ^ 55 ≤ number) × (number < 2 ^ 56) }
+        ensures { result.number ≡ number }
+    {
+        let inverse = 0x8000_0000_0000_0000 / ((number >> 24) + 1);
+        Divisor { number, inverse }
+    }
+
+    // The residue of a number that one subtraction makes one.
+    fn less_once(self, n: u64) -> u64
+        requires { n < 2 * self.number }
+        ensures { result ≡ n % self.number }
+    {
+        if n >= self.number { n - self.number } else { n }
+    }
+
+    // The residue of x * y, of a residue and a half of one.
+    fn half_product(self, x: u64, y: u64) -> u64
+        requires { (x < self.number) × (y ≤ 2 ^ 28) }
+        ensures { result ≡ x * y % self.number }
+    {
+        let high = ((x >> 25) * y) >> 28;
+        let quotient = (high * self.inverse) >> 34;
+        let left = x
+            .wrapping_mul(y)
+            .wrapping_sub(self.number.wrapping_mul(quotient));
+        self.less_once(left)
+    }
+
+    // The residue of x * y, of two residues.
+    fn product(self, x: u64, y: u64) -> u64
+        requires { (x < self.number) × (y < self.number) }
+        ensures { result ≡ x * y % self.number }
+    {
+        let high = self.half_product(x, y >> 28);
+        let low = self.half_product(x, y % 0x1000_0000);
+        self.less_once(self.half_product(high, 0x1000_0000) + low)
+    }
+
+    // The residue of x * 2^digit, of a residue and a binary digit.
+    fn appended(self, x: u64, digit: u64) -> u64
+        requires { (x < self.number) × (digit < 2) }
+        ensures { result ≡ x * 2 ^ digit % self.number }
+    {
+        self.less_once(x << digit)
+    }
+
+    // The residue of 2^n. From the leading digits of n on, each digit more squares the power, and doubles it where it is 1.
+    fn power_of_two(self, n: u64) -> u64
+        ensures { result ≡ 2 ^ n % self.number }
+    {
+        let past = digits_past(n);
+        let mut r = power(n >> past);
+        for k in (0..past).rev() {
+            r = self.appended(self.product(r, r), (n >> k) % 2);
+        }
+        r
+    }
 }
 
-// (x + y) % d, of two residues.
-fn sum(x: u64, y: u64, d: u64) -> u64
-    requires { (x < d) × (y < d) × (d < 2 ^ 56) }
-    ensures { result ≡ (x + y) % d }
-{
-    let n = x + y;
-    if n >= d { n - d } else { n }
-}
-
-// x * y % d, of two residues.
-fn product(x: u64, y: u64, d: u64, inverse: u64) -> u64
-    requires { Modulus d inverse × (x < d) × (y < d) }
-    ensures { result ≡ x * y % d }
-{
-    let high = reduced(x, y >> 28, d, inverse);
-    let low = reduced(x, y % 0x1000_0000, d, inverse);
-    sum(reduced(high, 0x1000_0000, d, inverse), low, d)
-}
-
-// x * 2^digit % d, of a residue and a binary digit.
-fn appended(x: u64, digit: u64, d: u64) -> u64
-    requires { (x < d) × (digit < 2) × (d < 2 ^ 56) }
-    ensures { result ≡ x * 2 ^ digit % d }
-{
-    let n = x << digit;
-    if n >= d { n - d } else { n }
-}
-
-// How many of n's last binary digits are left out for 2^n to be below every modulus.
+// How many of n's last binary digits are left out for 2^n to be below every modulus: all but six, or all but five.
 fn digits_past(n: u64) -> u64
     ensures { (result < 64) × (n / 2 ^ result ≤ 54) }
 {
-    let mut k = 0;
-    while n >> k > 54 {
-        k += 1;
-    }
-    k
-}
-
-// 2^n % d. From the leading digits of n on, each digit more squares the power, and doubles it where it is 1.
-fn power_of_two(n: u64, d: u64, inverse: u64) -> u64
-    requires { Modulus d inverse }
-    ensures { result ≡ 2 ^ n % d }
-{
-    let mut k = digits_past(n);
-    let mut r = power(n >> k);
-    while k > 0 {
-        k -= 1;
-        r = appended(product(r, r, d, inverse), (n >> k) % 2, d);
-    }
-    r
+    let most = 54;
+    let k = 58_u64.saturating_sub(n.leading_zeros() as u64);
+    if n >> k > most { k + 1 } else { k }
 }
 
 // m * 2^n % (8 * w): what is left of m * 2^n by w, and with it the last three binary digits of the quotient.
@@ -91,8 +95,7 @@ pub fn scaled_remainder(m: u64, n: u64, w: u64) -> u64
     ensures { result ≡ m * 2 ^ n % (8 * w) }
 {
     let k = leading_shift(55, w);
-    let d = w << k;
-    let inverse = 0x8000_0000_0000_0000 / ((d >> 24) + 1);
-    let scale = power_of_two(n + k - 3, d, inverse);
-    product(m, scale, d, inverse) >> (k - 3)
+    let divisor = Divisor::of(w << k);
+    let scale = divisor.power_of_two(n + k - 3);
+    divisor.product(m, scale) >> (k - 3)
 }

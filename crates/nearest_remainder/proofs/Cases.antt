@@ -3,7 +3,7 @@
 use mathlib.Core.Path.{◌≡◌, refl, sym, ◌∙◌}
 use mathlib.Core.Bool.{Bool, true, false, ◌||◌, cond}
 use mathlib.Core.Logic.{⊎_elim}
-use Prim.Native.Nat.{ℕ, ◌%◌, ◌≤◌, ◌<◌}
+use Prim.Native.Nat.{ℕ, ◌%◌, ◌<◌}
 use native.Mathlib.Omega.{arith}
 use native.Mathlib.Nat.{eq-zero-or-pos}
 use lib.IntN.{pos}
@@ -13,10 +13,10 @@ use Rattle.float_format.specs.Format.{Format, infinity, negative, unsigned, is_n
 use Rattle.float_format.specs.Number.{units_of}
 use Rattle.float_format.specs.Rounding.{with_sign}
 use Rattle.float_format.proofs.Units.{lt_or_ge, three_way}
-use Rattle.remainder.specs.Remainder.{fmod, fmod_refusal, no_remainder}
+use Rattle.remainder.specs.Remainder.{fmod, no_remainder}
 use Rattle.remainder.specs.Shape.{is_special}
 use Rattle.remainder.proofs.Cases.{different, finite_nonzero, is_nan_lem, no_nan, is_infinite_lem, not_infinite, is_zero_lem, not_zero}
-use Rattle.remainder.proofs.Laws.{Operands, fmod_refuses_or_not}
+use Rattle.remainder.proofs.Laws.{Operands}
 use Rattle.nearest_remainder.specs.Nearest.{nearest_quotient, less_nearest, remainder, remquo_quotient}
 
 -- an operand for which nothing is divided
@@ -77,7 +77,3 @@ module _ (f : Format) (x y : ℕ) where
   special_operands e =
       let h : (unsigned f x < infinity f) × (unsigned f y < infinity f) × (0 < unsigned f y) = finite_nonzero f x y e in
       record { finite_x = h.0; finite_y = h.1; nonzero = h.2 }
-
-  -- the refusal's number fits any word
-  pub refusal_few : fmod_refusal f x y ≤ 2
-  refusal_few = ⊎_elim (λ e. omega arith) (λ e. omega arith) (fmod_refuses_or_not f x y)

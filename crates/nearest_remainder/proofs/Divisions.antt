@@ -5,12 +5,11 @@ use native.Mathlib.Nat.{div-add-mod', mod-lt, mod-eq_of_lt, div-eq_of_lt, mul_as
 use native.Mathlib.Omega.{arith}
 use lib.Arith.{digits_div, digits_mod, mod-mul}
 use lib.Pow.{pow_pos, pow_mono, pow-add, shl_exact, mod-mod-pow}
-use Rattle.float_format.specs.Format.{Format, sign_bit, top_field, infinity, unsigned, exponent_field}
+use Rattle.float_format.specs.Format.{Format, top_field, infinity, unsigned, exponent_field}
 use Rattle.float_format.specs.Number.{magnitude}
 use Rattle.float_format.proofs.Sizes.{rest_below}
 use Rattle.float_format.proofs.Units.{magnitude_mono}
-use Rattle.float_format.specs.Width.{InWord}
-use Rattle.remainder.specs.Shape.{scale_of, Ordinary}
+use Rattle.remainder.specs.Shape.{scale_of}
 use Rattle.remainder.proofs.Split.{Split, split, scale_lt, remainder-scaled}
 use Rattle.nearest_remainder.specs.Shape.{Divided, Close, Magnitudes}
 
@@ -90,10 +89,6 @@ module _ (f : Format) (x y : ℕ) (c : Close f x y) where
 
   pub close_nonzero : 0 < unsigned f y
   close_nonzero = omega (arith, div-mul-le_self (unsigned f y) (2 ^ f.fraction), mul-le-mul {n₁ = 1} {m₁ = 1} {n₂ = exponent_field f y} {m₂ = 2 ^ f.fraction} c.normal (pow_pos f.fraction))
-
-  pub close_ordinary : InWord f → 19 ≤ f.fraction → f.fraction ≤ 52 → x < 2 * sign_bit f → Ordinary f x y
-  close_ordinary w least most p =
-      record { word = w; least = least; most = most; pattern = p; finite_x = close_finite_x; finite_y = close_finite_y; nonzero = close_nonzero }
 
 -- ---- scales two or more apart
 

@@ -1,43 +1,78 @@
-// The nearest remainder of patterns, remainder and remquo, at each width.
+// The nearest remainder of patterns, remainder and remquo.
 //
 // A cut division, as fmod's, leaves a rest and the last three binary digits of its quotient. Where the rest is more than half of the divisor, or
 // half of it and the quotient odd, the quotient goes on by one, and what is left is what the rest lacks to the divisor, with the other sign. Where
 // the exponents lie close, one division of words does; beyond, the power of two between them is worked out modulo eight times the divisor, in as
-// many turns as its exponent has digits. The pieces are small, and each width's function is put together from them, so that the compiler folds the
-// sizes.
+// many turns as its exponent has digits. The pieces are small and generic over the width, so that the compiler folds the sizes.
 #![tactic(auto)]
 
 ghost use Rattle.std.specs.Prelude.{◌≡◌, true, cond, ◌+◌, ◌-◌, ◌*◌, ◌/◌, ◌%◌, ◌^◌, ◌<◌, ◌≤◌, ltb};
 ghost use Rattle.std.specs.Float.Ieee.{unlike};
-ghost use Rattle.float_format.specs.Format.{sign_bit, default_nan, negative, unsigned};
+ghost use Rattle.float_format.specs.Format.{sign_bit, negative, unsigned};
+ghost use Rattle.float_format.specs.Refusals.{refusal_number};
 ghost use Rattle.float_format.specs.Rounding.{with_sign};
-ghost use Rattle.float_format.specs.Width.{format, InWord};
+ghost use Rattle.remainder.specs.Remainder.{fmod_refusal};
 ghost use Rattle.remainder.specs.Shape.{Ordinary, scale_of};
+ghost use Rattle.nearest_remainder.specs.Nearest.{remainder, remquo_quotient};
 ghost use Rattle.nearest_remainder.specs.Shape.{Answered, Close, Divided, Magnitudes};
 
-use float_format::width::{encoded, field, power, rest, sign_bit, signed_zero, top_field};
+use float_format::width::{encoded, field, rest, sign_bit, signed_zero, top_field, unit};
+use float_format::{Pattern, Refusal, Wide, Word};
 use modular::scaled_remainder;
 use remainder::{scale, significand, special, special_answer};
 
-pub mod binary32;
-pub mod binary64;
-
-// What remquo answers: a pattern, the quotient with its sign, and the number of the refusal, 0 where there is none. 16 bytes, which a C function
-// returns in registers.
-#[repr(C)]
-#[derive(Drop)]
-pub struct Remquo64 {
-    pub word: u64,
+// What remquo answers: a pattern, the quotient with its sign, and the refusal.
+#[derive(Clone, Copy)]
+pub struct WithQuotient<P> {
+    pub word: P,
     pub quotient: i32,
-    pub refusal: u32,
+    pub refusal: Option<Refusal>,
 }
 
-#[repr(C)]
-#[derive(Drop)]
-pub struct Remquo32 {
-    pub word: u32,
-    pub quotient: i32,
-    pub refusal: u64,
+impl<P: Copy> WithQuotient<P> {
+    // The number of the refusal, 0 where there is none.
+    pub fn number(self) -> u64
+        ensures { result ≡ refusal_number self.refusal }
+    {
+        let answer = Word {
+            word: self.word,
+            refusal: self.refusal,
+        };
+        answer.number()
+    }
+}
+
+// The remainder x - n * y exactly, n being the integer nearest to x / y, halves to even. A zero has x's sign.
+//
+// Special cases are: the first NaN quieted; x where x is finite and y infinite.
+//
+// Refuses 2 where x is infinite or y is zero, and neither is NaN: default NaN.
+#[inline(always)]
+pub fn remainder<P: Wide>(x: P, y: P) -> Word<P>
+    ensures { (P.bits result.word ≡ remainder P.format (P.bits x) (P.bits y)) × (refusal_number result.refusal ≡ fmod_refusal P.format (P.bits x) (P.bits y)) }
+{
+    let answer = of_words::<P>(x.to_word(), y.to_word());
+    Word {
+        word: P::from_word(answer.word),
+        refusal: answer.refusal,
+    }
+}
+
+// The same, and the quotient: the sign of x / y on the magnitude of n modulo 8. It is 0 with a NaN, for an infinite y, and where it is refused.
+//
+// Refuses 2 where x is infinite or y is zero, and neither is NaN: default NaN.
+pub fn remquo<P: Wide>(x: P, y: P) -> WithQuotient<P>
+    ensures { (P.bits result.word ≡ remainder P.format (P.bits x) (P.bits y)) × (result.quotient ≡ remquo_quotient P.format (P.bits x) (P.bits y)) × (refusal_number result.refusal ≡ fmod_refusal P.format (P.bits x) (P.bits y)) }
+{
+    let a = x.to_word();
+    let b = y.to_word();
+    let negative = unlike_signs::<P>(a, b);
+    let answer = of_words::<P>(a, b);
+    WithQuotient {
+        word: P::from_word(answer.word),
+        quotient: with_sign(negative, answer.quotient),
+        refusal: answer.refusal,
+    }
 }
 
 // ---- a cut division of significands
@@ -49,31 +84,33 @@ struct Cut {
     rest: u64,
 }
 
+impl Cut {
+    // One binary digit of the quotient, which counts `times`.
+    fn digit(self, times: u64, w: u64) -> Cut
+        requires { (self.rest < 2 * (times * w)) × (self.quotient < 8) × (times ≤ 4) × (w < 2 ^ 53) }
+        ensures { (result.quotient * w + result.rest ≡ self.quotient * w + self.rest) × (result.rest < times * w) × (result.quotient ≤ self.quotient + times) }
+    {
+        let part = times * w;
+        if self.rest >= part {
+            Cut {
+                quotient: self.quotient + times,
+                rest: self.rest - part,
+            }
+        } else {
+            self
+        }
+    }
+}
+
 // m * 2^n by w, where m * 2^n fits a word.
-fn short_division(fraction: u64, m: u64, n: u64, w: u64) -> Cut
-    requires { (fraction ≤ 52) × (m < 2 * 2 ^ fraction) × (n ≤ 63 - fraction) × (0 < w) }
+fn short_division<P: Wide>(m: u64, n: u64, w: u64) -> Cut
+    requires { (m < 2 * 2 ^ P.format.fraction) × (n ≤ 63 - P.format.fraction) × (0 < w) }
     ensures { (result.quotient ≡ m * 2 ^ n / w) × (result.rest ≡ m * 2 ^ n % w) }
 {
     let moved = m << n;
     Cut {
         quotient: moved / w,
         rest: moved % w,
-    }
-}
-
-// One binary digit of the quotient, which counts `times`.
-fn digit(cut: Cut, times: u64, w: u64) -> Cut
-    requires { (cut.rest < 2 * (times * w)) × (cut.quotient < 8) × (times ≤ 4) × (w < 2 ^ 53) }
-    ensures { (result.quotient * w + result.rest ≡ cut.quotient * w + cut.rest) × (result.rest < times * w) × (result.quotient ≤ cut.quotient + times) }
-{
-    let part = times * w;
-    if cut.rest >= part {
-        Cut {
-            quotient: cut.quotient + times,
-            rest: cut.rest - part,
-        }
-    } else {
-        cut
     }
 }
 
@@ -86,16 +123,16 @@ fn last_digits(r: u64, w: u64) -> Cut
         quotient: 0,
         rest: r,
     };
-    digit(digit(digit(none, 4, w), 2, w), 1, w)
+    none.digit(4, w).digit(2, w).digit(1, w)
 }
 
 // m * 2^n by w: the quotient modulo 8, and what is left.
-fn cut_division(fraction: u64, m: u64, n: u64, w: u64) -> Cut
-    requires { (fraction ≤ 52) × (m < 2 * 2 ^ fraction) × (n < 2 ^ 63) × (0 < w) × (w < 2 * 2 ^ fraction) }
+fn cut_division<P: Wide>(m: u64, n: u64, w: u64) -> Cut
+    requires { (m < 2 * 2 ^ P.format.fraction) × (n < 2 ^ 63) × (0 < w) × (w < 2 * 2 ^ P.format.fraction) }
     ensures { (result.quotient % 8 ≡ m * 2 ^ n / w % 8) × (result.rest ≡ m * 2 ^ n % w) }
 {
-    if n <= 63 - fraction {
-        return short_division(fraction, m, n, w);
+    if n <= 63 - P::fraction_bits() {
+        return short_division::<P>(m, n, w);
     }
     last_digits(scaled_remainder(m, n, w), w)
 }
@@ -111,31 +148,41 @@ struct Division {
     scale: u64,
 }
 
+impl Division {
+    // Whether the nearest quotient is the next one: past the half, or at it and odd.
+    fn goes_on(self) -> bool
+        requires { self.rest < 2 ^ 62 }
+        ensures { result ≡ ltb self.divisor (2 * self.rest + self.quotient % 2) }
+    {
+        2 * self.rest + self.quotient % 2 > self.divisor
+    }
+}
+
 // Of a below b, their scales at most one apart, nothing is divided: in units of a's scale b fits a word.
-fn smaller(fraction: u64, exponent: u64, a: u64, b: u64) -> Division
-    requires { Magnitudes (format fraction exponent) a b × (a < b) × (scale_of fraction b ≤ scale_of fraction a + 1) }
-    ensures { Divided (format fraction exponent) a b result.quotient result.rest result.divisor result.scale }
+fn smaller<P: Wide>(a: u64, b: u64) -> Division
+    requires { Magnitudes P.format a b × (a < b) × (scale_of P.format.fraction b ≤ scale_of P.format.fraction a + 1) }
+    ensures { Divided P.format a b result.quotient result.rest result.divisor result.scale }
 {
-    let i = scale(fraction, a);
-    let above = scale(fraction, b) - i;
+    let i = scale::<P>(a);
+    let above = scale::<P>(b) - i;
     Division {
         quotient: 0,
-        rest: significand(fraction, a),
-        divisor: significand(fraction, b) << above,
+        rest: significand::<P>(a),
+        divisor: significand::<P>(b) << above,
         scale: i,
     }
 }
 
 // In units of b's scale.
 #[inline(always)]
-fn at_scale(fraction: u64, exponent: u64, a: u64, b: u64) -> Division
-    requires { Magnitudes (format fraction exponent) a b × (b ≤ a) × InWord (format fraction exponent) }
-    ensures { Divided (format fraction exponent) a b result.quotient result.rest result.divisor result.scale }
+fn at_scale<P: Wide>(a: u64, b: u64) -> Division
+    requires { Magnitudes P.format a b × (b ≤ a) }
+    ensures { Divided P.format a b result.quotient result.rest result.divisor result.scale }
 {
-    let j = scale(fraction, b);
-    let w = significand(fraction, b);
-    let n = scale(fraction, a) - j;
-    let cut = cut_division(fraction, significand(fraction, a), n, w);
+    let j = scale::<P>(b);
+    let w = significand::<P>(b);
+    let n = scale::<P>(a) - j;
+    let cut = cut_division::<P>(significand::<P>(a), n, w);
     Division {
         quotient: cut.quotient % 8,
         rest: cut.rest,
@@ -146,54 +193,52 @@ fn at_scale(fraction: u64, exponent: u64, a: u64, b: u64) -> Division
 
 // Any a and b but those with a's scale two or more below b's.
 #[inline(always)]
-fn divide(fraction: u64, exponent: u64, a: u64, b: u64) -> Division
-    requires { Magnitudes (format fraction exponent) a b × (scale_of fraction b ≤ scale_of fraction a + 1) × InWord (format fraction exponent) }
-    ensures { Divided (format fraction exponent) a b result.quotient result.rest result.divisor result.scale }
+fn divide<P: Wide>(a: u64, b: u64) -> Division
+    requires { Magnitudes P.format a b × (scale_of P.format.fraction b ≤ scale_of P.format.fraction a + 1) }
+    ensures { Divided P.format a b result.quotient result.rest result.divisor result.scale }
 {
     if a < b {
-        return smaller(fraction, exponent, a, b);
+        return smaller::<P>(a, b);
     }
-    at_scale(fraction, exponent, a, b)
+    at_scale::<P>(a, b)
 }
 
 // ---- normal numbers whose exponents lie close
 
 // Whether x and y are such: what most calls ask for, by one look at the exponent fields.
-fn close(fraction: u64, exponent: u64, x: u64, y: u64) -> bool
-    requires { InWord (format fraction exponent) × (fraction ≤ 52) }
-    ensures { result ≡ true → Close (format fraction exponent) x y }
+fn close<P: Wide>(x: u64, y: u64) -> bool
+    ensures { result ≡ true → Close P.format x y }
 {
-    let i = field(fraction, exponent, x);
-    let j = field(fraction, exponent, y);
+    let i = field::<P>(x);
+    let j = field::<P>(y);
     if j == 0 {
         return false;
     }
     if i < j {
         return false;
     }
-    if i - j > 63 - fraction {
+    if i - j > 63 - P::fraction_bits() {
         return false;
     }
-    i < top_field(fraction, exponent)
+    i < top_field::<P>()
 }
 
 // The significand of a normal number.
-fn normal_significand(fraction: u64, x: u64) -> u64
-    requires { fraction ≤ 52 }
-    ensures { result ≡ x % 2 ^ fraction + 2 ^ fraction }
+fn normal_significand<P: Wide>(x: u64) -> u64
+    ensures { result ≡ x % 2 ^ P.format.fraction + 2 ^ P.format.fraction }
 {
-    x % power(fraction) + power(fraction)
+    x % unit::<P>() + unit::<P>()
 }
 
 // In units of y's scale, without a look at what else x and y could be.
-fn close_division(fraction: u64, exponent: u64, x: u64, y: u64) -> Division
-    requires { InWord (format fraction exponent) × (fraction ≤ 52) × Close (format fraction exponent) x y }
-    ensures { Divided (format fraction exponent) (unsigned (format fraction exponent) x) (unsigned (format fraction exponent) y) result.quotient result.rest result.divisor result.scale }
+fn close_division<P: Wide>(x: u64, y: u64) -> Division
+    requires { Close P.format x y }
+    ensures { Divided P.format (unsigned P.format x) (unsigned P.format y) result.quotient result.rest result.divisor result.scale }
 {
-    let j = field(fraction, exponent, y);
-    let n = field(fraction, exponent, x) - j;
-    let w = normal_significand(fraction, y);
-    let cut = short_division(fraction, normal_significand(fraction, x), n, w);
+    let j = field::<P>(y);
+    let n = field::<P>(x) - j;
+    let w = normal_significand::<P>(y);
+    let cut = short_division::<P>(normal_significand::<P>(x), n, w);
     Division {
         quotient: cut.quotient % 8,
         rest: cut.rest,
@@ -204,14 +249,6 @@ fn close_division(fraction: u64, exponent: u64, x: u64, y: u64) -> Division
 
 // ---- the nearest quotient
 
-// Whether it is the next one: past the half, or at it and odd.
-fn goes_on(p: Division) -> bool
-    requires { p.rest < 2 ^ 62 }
-    ensures { result ≡ ltb p.divisor (2 * p.rest + p.quotient % 2) }
-{
-    2 * p.rest + p.quotient % 2 > p.divisor
-}
-
 // Both are worked out before the choice, so that it needs no branch.
 fn chosen(test: bool, x: u64, y: u64) -> u64
     ensures { result ≡ cond test x y }
@@ -219,73 +256,85 @@ fn chosen(test: bool, x: u64, y: u64) -> u64
     if test { x } else { y }
 }
 
-// The remainder as a pattern, the quotient modulo 8 without its sign, and the number of the refusal, 0 where there is none.
+// The remainder as a pattern, the quotient modulo 8 without its sign, and the refusal.
 #[derive(Drop)]
 struct Answer {
     word: u64,
     quotient: u64,
-    refusal: u64,
+    refusal: Option<Refusal>,
 }
 
 // x less the nearest multiple of y, of which p is the cut division.
-fn nearest(fraction: u64, exponent: u64, x: u64, y: u64, p: Division) -> Answer
-    requires { Ordinary (format fraction exponent) x y × Divided (format fraction exponent) (unsigned (format fraction exponent) x) (unsigned (format fraction exponent) y) p.quotient p.rest p.divisor p.scale }
-    ensures { Answered (format fraction exponent) x y result.word result.quotient result.refusal }
+fn nearest<P: Pattern>(x: u64, y: u64, p: Division) -> Answer
+    requires { Ordinary P.format x y × Divided P.format (unsigned P.format x) (unsigned P.format y) p.quotient p.rest p.divisor p.scale }
+    ensures { Answered P.format x y result.word result.quotient (refusal_number result.refusal) }
 {
-    let on = goes_on(p);
+    let on = p.goes_on();
     let left = chosen(on, p.divisor - p.rest, p.rest);
-    let zero = signed_zero(fraction, exponent, x);
-    let sign = chosen(on, sign_bit(fraction, exponent) - zero, zero);
+    let zero = signed_zero::<P>(x);
+    let sign = chosen(on, sign_bit::<P>() - zero, zero);
     Answer {
-        word: sign + encoded(fraction, exponent, left, p.scale),
+        word: sign + encoded::<P>(left, p.scale),
         quotient: (p.quotient + chosen(on, 1, 0)) % 8,
-        refusal: 0,
+        refusal: None,
     }
 }
 
 // The same for any x and y that have a remainder: x itself, where its scale is two or more below y's.
 #[inline(always)]
-fn ordinary(fraction: u64, exponent: u64, x: u64, y: u64) -> Answer
-    requires { Ordinary (format fraction exponent) x y }
-    ensures { Answered (format fraction exponent) x y result.word result.quotient result.refusal }
+fn ordinary<P: Wide>(x: u64, y: u64) -> Answer
+    requires { Ordinary P.format x y }
+    ensures { Answered P.format x y result.word result.quotient (refusal_number result.refusal) }
 {
-    let a = rest(fraction, exponent, x);
-    let b = rest(fraction, exponent, y);
-    if scale(fraction, a) + 1 < scale(fraction, b) {
+    let a = rest::<P>(x);
+    let b = rest::<P>(y);
+    if scale::<P>(a) + 1 < scale::<P>(b) {
         return Answer {
             word: x,
             quotient: 0,
-            refusal: 0,
+            refusal: None,
         };
     }
-    nearest(fraction, exponent, x, y, divide(fraction, exponent, a, b))
+    nearest::<P>(x, y, divide::<P>(a, b))
 }
 
-// And for any others: where there is nothing to divide, fmod's answer. `nan` is the default NaN, which each width has as a constant.
+// And for any others: where there is nothing to divide, fmod's answer.
 #[inline(always)]
-fn any(fraction: u64, exponent: u64, nan: u64, x: u64, y: u64) -> Answer
-    requires { InWord (format fraction exponent) × (19 ≤ fraction) × (fraction ≤ 52) × (x < 2 * sign_bit (format fraction exponent)) × (y < 2 * sign_bit (format fraction exponent)) × (nan ≡ default_nan (format fraction exponent)) }
-    ensures { Answered (format fraction exponent) x y result.word result.quotient result.refusal }
+fn any<P: Wide>(x: u64, y: u64) -> Answer
+    requires { (x < 2 * sign_bit P.format) × (y < 2 * sign_bit P.format) }
+    ensures { Answered P.format x y result.word result.quotient (refusal_number result.refusal) }
 {
-    if special(fraction, exponent, x, y) {
-        let answer = special_answer(fraction, exponent, nan, x, y);
+    if special::<P>(x, y) {
+        let answer = special_answer::<P>(x, y);
         return Answer {
             word: answer.word,
             quotient: 0,
             refusal: answer.refusal,
         };
     }
-    ordinary(fraction, exponent, x, y)
+    ordinary::<P>(x, y)
+}
+
+// What both answer: of the numbers that most calls ask for, by the short division.
+#[inline(always)]
+fn of_words<P: Wide>(x: u64, y: u64) -> Answer
+    requires { (x < 2 * sign_bit P.format) × (y < 2 * sign_bit P.format) }
+    ensures { Answered P.format x y result.word result.quotient (refusal_number result.refusal) }
+{
+    if close::<P>(x, y) {
+        return nearest::<P>(x, y, close_division::<P>(x, y));
+    }
+    any::<P>(x, y)
 }
 
 // ---- the quotient's sign
 
 // Whether x and y have two signs.
-fn unlike_signs(fraction: u64, exponent: u64, x: u64, y: u64) -> bool
-    requires { InWord (format fraction exponent) × (x < 2 * sign_bit (format fraction exponent)) × (y < 2 * sign_bit (format fraction exponent)) }
-    ensures { result ≡ unlike (negative (format fraction exponent) x) (negative (format fraction exponent) y) }
+fn unlike_signs<P: Pattern>(x: u64, y: u64) -> bool
+    requires { (x < 2 * sign_bit P.format) × (y < 2 * sign_bit P.format) }
+    ensures { result ≡ unlike (negative P.format x) (negative P.format y) }
 {
-    signed_zero(fraction, exponent, x) != signed_zero(fraction, exponent, y)
+    signed_zero::<P>(x) != signed_zero::<P>(y)
 }
 
 // A quotient below 8, negated or not.
@@ -294,6 +343,5 @@ fn with_sign(negative: bool, n: u64) -> i32
     ensures { result ≡ with_sign negative n }
 {
     let z = n as i32;
-    let minus = 0 - z;
-    if negative { minus } else { z }
+    if negative { -z } else { z }
 }

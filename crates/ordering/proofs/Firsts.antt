@@ -156,21 +156,11 @@ module _ (f : Format) (x y : ℕ) (p : x < 2 * sign_bit f) (q : y < 2 * sign_bit
   later_only : (w : ℕ) → w < 2 * sign_bit f → key f w ≡ max (key f x) (key f y) → w ≡ later f x y
   later_only w r e = key_same f w (later f x y) r (either_lt (before f x y) x y (2 * sign_bit f) p q) (e ∙ sym (later_key f x y))
 
--- ---- as the code picks: by the lesser and the greater of the two patterns, each by a comparison
+-- ---- as the code picks: by the lesser and the greater of the two patterns
 
-abbrev pub Lesser : ℕ → ℕ → ℕ → Type 0
-Lesser x y low = ((x < y) × (low ≡ x)) ⊎ ((y ≤ x) × (low ≡ y))
-
-abbrev pub Greater : ℕ → ℕ → ℕ → Type 0
-Greater x y high = ((x < y) × (high ≡ y)) ⊎ ((y ≤ x) × (high ≡ x))
-
-module _ (f : Format) (x y : ℕ) (p : x < 2 * sign_bit f) (q : y < 2 * sign_bit f) (low high : ℕ) (l : Lesser x y low) (h : Greater x y high) where
+module _ (f : Format) (x y : ℕ) (p : x < 2 * sign_bit f) (q : y < 2 * sign_bit f) (low high : ℕ) (l : low ≡ min x y) (h : high ≡ max x y) where
   sorted : ((x < y) × (low ≡ x) × (high ≡ y)) ⊎ ((y ≤ x) × (low ≡ y) × (high ≡ x))
-  sorted =
-      ⊎_elim
-      (λ a. ⊎_elim (λ b. inl (a.0, a.1, b.1)) (λ b. absurd (omega arith)) h)
-      (λ a. ⊎_elim (λ b. absurd (omega arith)) (λ b. inr (a.0, a.1, b.1)) h)
-      l
+  sorted = ⊎_elim (λ a. inl (a, omega (arith, l), omega (arith, h))) (λ a. inr (a, omega (arith, l), omega (arith, h))) (lt_or_ge x y)
 
   pub earlier_plus : high < sign_bit f → (low ≡ earlier f x y) × (low < 2 * sign_bit f)
   earlier_plus m =

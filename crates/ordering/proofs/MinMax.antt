@@ -48,8 +48,8 @@ module _ (f : Format) (x y r : ℕ) where
   past_none e g = simp (e, g)
 
   -- r one of x and y that bounds both
-  first_cause : (R : ℕ → ℕ → Type 0) → (r ≡ x) ⊎ (r ≡ y) → R r x × R r y → First f R x y (past_nans f x y r)
-  first_cause R one both =
+  first_of_two : (R : ℕ → ℕ → Type 0) → (r ≡ x) ⊎ (r ≡ y) → R r x × R r y → First f R x y (past_nans f x y r)
+  first_of_two R one both =
       record {
         nans = past_both;
         first_nan = past_first;
@@ -66,14 +66,14 @@ pub fmin-first : (f : Format) (x y : ℕ) → First f (AtMost f) x y (fmin f x y
 unfolding fmin
 fmin-first f x y =
     let e = earlier f x y in
-    first_cause f x y e (AtMost f) (either (before f y x) x y)
+    first_of_two f x y e (AtMost f) (either (before f y x) x y)
     (key_order f e x (omega (arith, earlier_key f x y)), key_order f e y (omega (arith, earlier_key f x y)))
 
 pub fmax-first : (f : Format) (x y : ℕ) → First f (AtLeast f) x y (fmax f x y)
 unfolding fmax
 fmax-first f x y =
     let l = later f x y in
-    first_cause f x y l (AtLeast f) (either (before f x y) x y)
+    first_of_two f x y l (AtLeast f) (either (before f x y) x y)
     (key_order f x l (omega (arith, later_key f x y)), key_order f y l (omega (arith, later_key f x y)))
 
 -- ---- monotone: larger operands give no smaller answer

@@ -73,11 +73,11 @@ selected t r a b w =
 
 -- as the code steps: x plus or minus one
 module _ (f : Format) (x : ℕ) (n : Nonzero f x) where
-  pub step_room : (1 ≤ x) × (x + 1 < 2 * sign_bit f)
-  step_room =
+  pub step_room : Valid f → (1 ≤ x) × (x + 1 < 2 * sign_bit f)
+  step_room v =
       ⊎_elim
-      (λ l. omega (arith, n.some, n.most, (sizes.plus f x n.pattern l).1, room_beyond f n.word.valid))
-      (λ g. omega (arith, n.some, n.most, (sizes.minus f x n.pattern g).1, room_beyond f n.word.valid))
+      (λ l. omega (arith, n.some, n.most, (sizes.plus f x n.pattern l).1, room_beyond f v))
+      (λ g. omega (arith, n.some, n.most, (sizes.minus f x n.pattern g).1, room_beyond f v))
       (lt_or_ge x (sign_bit f))
 
   pub step_plus : x < sign_bit f → (up : Bool) → cond up (x + 1) (x - 1) ≡ moved f up x

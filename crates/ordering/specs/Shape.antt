@@ -1,17 +1,14 @@
 -- What this crate's private functions cite. Definitions only; assumes nothing.
 use Rattle.std.specs.Prelude.{Bool, not, ◌&&◌, cond, ℕ, ◌+◌, ◌-◌, ◌*◌, ◌<◌, ◌≤◌}
 use Rattle.float_format.specs.Format.{Format, sign_bit, infinity, negative, unsigned, signed, is_nan, is_infinite}
-use Rattle.float_format.specs.Width.{InWord}
 
--- two patterns of a format that fits a word
+-- two patterns of a format
 pub record Operands (f : Format) (x y : ℕ) : Type 0 where
-  pub word : InWord f
   pub first : x < 2 * sign_bit f
   pub second : y < 2 * sign_bit f
 
 -- a pattern that is no NaN and no zero
 pub record Nonzero (f : Format) (x : ℕ) : Type 0 where
-  pub word : InWord f
   pub pattern : x < 2 * sign_bit f
   pub some : 0 < unsigned f x
   pub most : unsigned f x ≤ infinity f

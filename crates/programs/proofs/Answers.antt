@@ -9,7 +9,7 @@ use native.Mathlib.Omega.{arith}
 use lib.ListN.{length, length-append}
 use borrow.Author.Tests.{lt-ltb, le-ltb, eq-eqb, ne_eqb}
 use Rattle.hexadecimal.specs.Hex.{field_of, digits}
-use Rattle.hexadecimal.specs.declared.Field.TheVariants.{Value}
+use Rattle.std.specs.Prelude.{Some}
 use Rattle.hexadecimal.proofs.Digits.{length_digits}
 use Rattle.hexadecimal.proofs.Laws.{read_written}
 use Rattle.recipe.specs.declared.Step.{Step}
@@ -31,18 +31,18 @@ module _ (number place : ℕ) where
   refusal-length = simp (length-append, length_digits)
 
   -- Its digits are read back: ff ..
-  pub refusal-mark : field_of (refusal_line number place) 0 2 0 ≡ Value 0xff
+  pub refusal-mark : field_of (refusal_line number place) 0 2 0 ≡ Some 0xff
   unfolding refusal_line
   refusal-mark = read_written 2 0xff [] _ (omega arith)
 
   -- .. then the number ..
-  pub refusal-number : number < 256 → field_of (refusal_line number place) 2 2 0 ≡ Value number
+  pub refusal-number : number < 256 → field_of (refusal_line number place) 2 2 0 ≡ Some number
   unfolding refusal_line
   refusal-number h =
       ap (λ (at : ℕ). field_of (refusal_line number place) at 2 0) (sym (length_digits 2 0xff)) ∙ read_written 2 number (digits 2 0xff) _ h
 
   -- .. and then the place.
-  pub refusal-place : place < 256 → field_of (refusal_line number place) 4 2 0 ≡ Value place
+  pub refusal-place : place < 256 → field_of (refusal_line number place) 4 2 0 ≡ Some place
   unfolding refusal_line
   refusal-place h =
       let p : List ℕ = digits 2 0xff ++ digits 2 number in
@@ -68,11 +68,11 @@ module _ (x : Text) (more : List Step → List ℕ) where
 
 module _ (r : RunAnswer) (z : r.refusal ≡ 0) where
   -- Its digits are read back: the kind, then the word.
-  pub answer-kind : r.kind < 256 → field_of (answer_line r) 0 2 0 ≡ Value r.kind
+  pub answer-kind : r.kind < 256 → field_of (answer_line r) 0 2 0 ≡ Some r.kind
   unfolding answer_line
   answer-kind h = rw (eq-eqb r.refusal 0 z) (read_written 2 r.kind [] _ h)
 
-  pub answer_word : r.word < 2 ^ 64 → field_of (answer_line r) 2 16 0 ≡ Value r.word
+  pub answer_word : r.word < 2 ^ 64 → field_of (answer_line r) 2 16 0 ≡ Some r.word
   unfolding answer_line
   answer_word h =
       rw (eq-eqb r.refusal 0 z)

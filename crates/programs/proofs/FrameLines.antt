@@ -1,16 +1,17 @@
 -- Frame lines in pieces: a piece without a line feed makes the line longer, a line feed ends it. `Paid` says what a piece comes to for every
 -- continuation of the input, so pieces join. Assumes nothing.
 use mathlib.Core.Path.{◌≡◌, refl, ap, ◌∙◌, sym}
-use mathlib.Core.Bool.{false}
 use mathlib.Core.List.{List, [], ◌∷◌, ◌++◌, append_assoc, append-nil}
-use Prim.Native.Nat.{ℕ, zero, suc, ◌+◌, ◌-◌, ◌<◌}
+use Prim.Native.Nat.{ℕ, zero, suc, ◌+◌, ◌-◌, ◌≤◌, ◌<◌}
 use native.Mathlib.Omega.{arith}
 use lib.ListN.{length, get_or, take, drop, length-drop}
 use lib.Seq.{get_or-take, get_or-drop, length-take-le}
 use borrow.Author.Tests.{ne_eqb}
+use Rattle.std.specs.Prelude.{Option, Some, None}
 use Rattle.recipe.specs.declared.Step.{Step}
+use Rattle.recipe.proofs.Counts.{never}
 use Rattle.recipe.specs.Answer.{Holds}
-use Rattle.programs.specs.declared.Lines.{Lines}
+use Rattle.programs.specs.declared.Progress.{Progress}
 use Rattle.programs.specs.Output.{frame_line, lines_after, answers}
 use Rattle.programs.specs.Stage.{NoFeed, Kept, LineEnd, Paid, Answered, Handled, between}
 use Rattle.programs.proofs.Answers.{answers_join, answers_one}
@@ -81,17 +82,18 @@ module _ (c : List ℕ) (from e : ℕ) (d : LineEnd c from e) where
 
 -- ---- what is kept of a line
 
-pub kept_nothing : (buffer : List ℕ) → Kept [] 0 buffer
-kept_nothing buffer = record { few = omega arith; whole = λ _. refl; long = λ h. absurd (omega arith) }
+pub kept_nothing : (buffer : List ℕ) → Kept [] (Some 0) buffer
+kept_nothing buffer = (omega arith, refl)
 
-pub kept_none : (line buffer : List ℕ) (n : ℕ) → Kept line n buffer → n ≡ 0 → line ≡ []
-kept_none line buffer n g z = g.whole (omega arith) ∙ rw z
+pub kept_none : (line buffer : List ℕ) (n : Option ℕ) → Kept line n buffer → n ≡ Some 0 → line ≡ []
+kept_none line buffer (Some n) g z = let e : n ≡ 0 = cc in g.1 ∙ rw e
+kept_none line buffer None g z = never (cc)
 
 -- ---- a piece of a chunk
 
 module _ (l : List Step) (line c : List ℕ) (from e : ℕ) (d : LineEnd c from e) where
   -- the chunk ends in the line
-  pub handled_part : (n : ℕ) (buffer : List ℕ) → Kept (line ++ between from e c) n buffer → NoFeed line → Handled l line (between from e c) [] n buffer
+  pub handled_part : (n : Option ℕ) (buffer : List ℕ) → Kept (line ++ between from e c) n buffer → NoFeed line → Handled l line (between from e c) [] n buffer
   handled_part n buffer g f =
       record {
         next = line ++ between from e c;
@@ -101,7 +103,7 @@ module _ (l : List Step) (line c : List ℕ) (from e : ℕ) (d : LineEnd c from 
       }
 
   -- the line's end is in the chunk
-  pub handled_line : (buffer x : List ℕ) → e < length c → x ≡ frame_line l (line ++ between from e c) → Handled l line (between from (e + 1) c) x 0 buffer
+  pub handled_line : (buffer x : List ℕ) → e < length c → x ≡ frame_line l (line ++ between from e c) → Handled l line (between from (e + 1) c) x (Some 0) buffer
   handled_line buffer x h q =
       record {
         next = [];
@@ -110,13 +112,13 @@ module _ (l : List Step) (line c : List ℕ) (from e : ℕ) (d : LineEnd c from 
         owes = rw (ended_piece c from e d h) (paid_line l line (between from e c) x (plain_piece c from e d) q);
       }
 
-module _ (l : List Step) (w c : List ℕ) (from : ℕ) (r : Lines) (out : List ℕ) (a : Answered w c from r out) (g : Holds l w) where
+module _ (l : List Step) (w c : List ℕ) (from : ℕ) (r : Progress) (out : List ℕ) (a : Answered w c from r out) (g : Holds l w) where
   -- whole lines
-  pub handled_full : (buffer : List ℕ) → Handled l [] (between from r.at c) (take r.put out) 0 buffer
+  pub handled_full : (buffer : List ℕ) → Handled l [] (between from r.at c) (take r.put out) (Some 0) buffer
   handled_full buffer = record { next = []; kept = kept_nothing buffer; plain = plain_none; owes = a.paid l g }
 
   -- whole lines, and the start of another
-  pub handled_rest : (n : ℕ) (buffer : List ℕ) → r.full ≡ false → Kept ([] ++ between r.at (length c) c) n buffer
+  pub handled_rest : (n : Option ℕ) (buffer : List ℕ) → 19 ≤ length out - r.put → Kept ([] ++ between r.at (length c) c) n buffer
       → Handled l [] (between from (length c) c) (take r.put out) n buffer
   handled_rest n buffer z k =
       let d = a.rest z in

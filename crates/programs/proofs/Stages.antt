@@ -2,27 +2,25 @@
 -- takes there, and says what reading the state then stands for. Assumes nothing.
 use mathlib.Core.Path.{◌≡◌, refl, ap, ◌∙◌, sym}
 use mathlib.Core.List.{List, [], ◌∷◌, ◌++◌, append-nil}
-use mathlib.Core.Logic.{⊎_elim}
-use Prim.Native.Nat.{ℕ, ◌*◌, ◌≤◌, ◌<◌}
+use Prim.Native.Nat.{ℕ, zero, suc, ◌*◌, ◌≤◌, ◌<◌}
 use native.Mathlib.Omega.{arith}
 use lib.ListN.{length, take}
 use lib.Seq.{length-take-le}
+use Rattle.std.specs.Prelude.{Option, Some, None}
 use Rattle.recipe.specs.declared.Step.{Step}
 use Rattle.recipe.specs.declared.Reading.{Reading as Read}
 use Rattle.recipe.specs.Text.{short, most_steps, read_text}
 use Rattle.recipe.specs.Packed.{steps_in}
 use Rattle.recipe.specs.Answer.{Says, Holds}
-use Rattle.recipe.proofs.Counts.{never}
 use Rattle.recipe.proofs.Laws.{answer_steps, answer_count, answer_holds, answer_refused}
-use Rattle.semantics.proofs.Lists.{lt_or_ge}
 use Rattle.programs.specs.declared.Stage.TheVariants.{Recipe, Frames, Done}
-use Rattle.programs.specs.declared.State.{State}
+use Rattle.programs.specs.declared.Stage.{Stage}
 use Rattle.programs.specs.declared.End.{End}
 use Rattle.programs.specs.declared.End.TheVariants.{Missing, Empty, Endless}
 use Rattle.programs.specs.Output.{refusal_line, frame_line, looked_at, last_line, lines_after, answers, part_after, on_recipe, output_of}
 use Rattle.programs.specs.Stage.{Reading, heading, running, stopped, owed, NoFeed, Kept, Stands, Handled, Fed, Finished, parts}
 use Rattle.programs.proofs.Answers.{refused-recipe, passed-recipe, answers_none, answers_one}
-use Rattle.programs.proofs.FrameLines.{kept_nothing, plain_none}
+use Rattle.programs.proofs.FrameLines.{kept_nothing, kept_none, plain_none}
 
 -- ---- a recipe that was read
 
@@ -44,22 +42,22 @@ module _ (t piece : List ℕ) (n : ℕ) (buffer w : List ℕ) (end : End) (few :
   heads : (s : List ℕ) → owed (heading t) (piece ++ s) ≡ output_of (parts end (take n buffer) s)
   heads s = owed_heading t (piece ++ s) ∙ ap output_of (e s)
 
-  pub fed_missing : end ≡ Missing → Fed (heading t) piece [] (record { stage = Recipe; count = n; steps = 0 }) buffer w
+  pub fed_missing : end ≡ Missing → Fed (heading t) piece [] (Recipe n) buffer w
   unfolding owed
   fed_missing q =
       record {
         next = heading (take n buffer);
-        stands = (refl, few, refl);
+        stands = (few, refl);
         owes = λ s. heads s ∙ ap (λ (x : End). output_of (parts x (take n buffer) s)) q;
       }
 
   pub fed_endless : (line : List ℕ) → end ≡ Endless → line ≡ refusal_line 10 0
-      → Fed (heading t) piece line (record { stage = Done; count = 0; steps = 0 }) buffer w
+      → Fed (heading t) piece line Done buffer w
   unfolding owed output_of
   fed_endless line q x =
       record {
         next = stopped;
-        stands = refl;
+        stands = tt;
         owes = λ s. heads s ∙ ap (λ (x : End). output_of (parts x (take n buffer) s)) q ∙ sym x ∙ sym (append-nil line);
       }
 
@@ -69,12 +67,12 @@ module _ (t piece : List ℕ) (n : ℕ) (buffer w : List ℕ) (end : End) (few :
     unfolding output_of
     opens s = heads s ∙ ap (λ (x : End). output_of (parts x (take n buffer) s)) q
 
-    pub fed_refused : (r.refusal ≡ 0 → ⊥) → Fed (heading t) piece line (record { stage = Done; count = 0; steps = 0 }) buffer w
+    pub fed_refused : (r.refusal ≡ 0 → ⊥) → Fed (heading t) piece line Done buffer w
     unfolding owed
     fed_refused h =
         record {
           next = stopped;
-          stands = refl;
+          stands = tt;
           owes = λ s.
               opens s
               ∙ read_refused (take n buffer) r w g (λ l. answers l (lines_after [] s)) h
@@ -83,7 +81,7 @@ module _ (t piece : List ℕ) (n : ℕ) (buffer w : List ℕ) (end : End) (few :
         }
 
     pub fed_opened : 3 * most_steps ≤ length w → r.refusal ≡ 0
-        → Fed (heading t) piece line (record { stage = Frames; count = 0; steps = r.count }) buffer w
+        → Fed (heading t) piece line (Frames r.count (Some 0)) buffer w
     unfolding owed
     fed_opened m h =
         let l = steps_in w r.count in
@@ -91,7 +89,7 @@ module _ (t piece : List ℕ) (n : ℕ) (buffer w : List ℕ) (end : End) (few :
         let f : 3 * r.count ≤ length w = omega (arith, c.1) in
         record {
           next = running l [];
-          stands = (refl, f, answer_holds (take n buffer) r w g h f, kept_nothing buffer, plain_none);
+          stands = (f, answer_holds (take n buffer) r w g h f, kept_nothing buffer, plain_none);
           owes = λ s.
               opens s
               ∙ read_passed (take n buffer) r w g (λ l. answers l (lines_after [] s)) h
@@ -100,42 +98,32 @@ module _ (t piece : List ℕ) (n : ℕ) (buffer w : List ℕ) (end : End) (few :
 
 -- ---- frames
 
-pub fed_frames : (l : List Step) (line piece written : List ℕ) (k n : ℕ) (buffer w : List ℕ) → 3 * k ≤ length w → Holds l (take (3 * k) w)
-    → Handled l line piece written n buffer → Fed (running l line) piece written (record { stage = Frames; count = n; steps = k }) buffer w
+pub fed_frames : (l : List Step) (line piece written : List ℕ) (k : ℕ) (n : Option ℕ) (buffer w : List ℕ) → 3 * k ≤ length w → Holds l (take (3 * k) w)
+    → Handled l line piece written n buffer → Fed (running l line) piece written (Frames k n) buffer w
 unfolding owed
 fed_frames l line piece written k n buffer w f g a =
-    record { next = running l a.next; stands = (refl, f, g, a.kept, a.plain); owes = a.owes }
+    record { next = running l a.next; stands = (f, g, a.kept, a.plain); owes = a.owes }
 
--- ---- which reading a state stands for
+-- ---- which reading a stage stands for
 
-pub stands_count : (g : Reading) (s : State) (buffer w : List ℕ) → Stands g s buffer w → s.stage ≡ Recipe → s.count ≤ looked_at
-stands_count (heading t) s buffer w h e = h.1
-stands_count (running l line) s buffer w h e = never (cc h.0)
-stands_count stopped s buffer w h e = never (cc)
-
-pub stands_steps : (g : Reading) (s : State) (buffer w : List ℕ) → Stands g s buffer w → s.stage ≡ Frames → 3 * s.steps ≤ length w
-stands_steps (heading t) s buffer w h e = never (cc h.0)
-stands_steps (running l line) s buffer w h e = h.1
-stands_steps stopped s buffer w h e = never (cc)
-
-module _ (piece written : List ℕ) (s next : State) (buffer w after v : List ℕ) where
-  pub fed_at_recipe : (g : Reading) → Stands g s buffer w → s.stage ≡ Recipe → Fed (heading (take s.count buffer)) piece written next after v
+module _ (piece written : List ℕ) (s next : Stage) (buffer w after v : List ℕ) where
+  pub fed_at_recipe : (n : ℕ) (g : Reading) → Stands g s buffer w → s ≡ Recipe n → Fed (heading (take n buffer)) piece written next after v
       → Fed g piece written next after v
-  fed_at_recipe (heading t) h e f = rw h.2 f
-  fed_at_recipe (running l line) h e f = never (cc h.0)
-  fed_at_recipe stopped h e f = never (cc)
+  fed_at_recipe n (heading t) h e f = let k = rw e at h in rw k.1 f
+  fed_at_recipe n (running l line) h e f = absurd (rw e at h)
+  fed_at_recipe n stopped h e f = absurd (rw e at h)
 
-  pub fed_at_frames : (g : Reading) → Stands g s buffer w → s.stage ≡ Frames
-      → ((l : List Step) (line : List ℕ) → Holds l (take (3 * s.steps) w) → Kept line s.count buffer → NoFeed line → Fed (running l line) piece written next after v)
+  pub fed_at_frames : (k : ℕ) (n : Option ℕ) (g : Reading) → Stands g s buffer w → s ≡ Frames k n
+      → ((l : List Step) (line : List ℕ) → Holds l (take (3 * k) w) → Kept line n buffer → NoFeed line → Fed (running l line) piece written next after v)
       → Fed g piece written next after v
-  fed_at_frames (heading t) h e f = never (cc h.0)
-  fed_at_frames (running l line) h e f = f l line h.2 h.3 h.4
-  fed_at_frames stopped h e f = never (cc)
+  fed_at_frames k n (heading t) h e f = absurd (rw e at h)
+  fed_at_frames k n (running l line) h e f = let a = rw e at h in f l line a.1 a.2 a.3
+  fed_at_frames k n stopped h e f = absurd (rw e at h)
 
-pub fed_at_done : (piece : List ℕ) (s : State) (buffer w : List ℕ) (g : Reading) → Stands g s buffer w → s.stage ≡ Done → Fed g piece [] s buffer w
+pub fed_at_done : (piece : List ℕ) (s : Stage) (buffer w : List ℕ) (g : Reading) → Stands g s buffer w → s ≡ Done → Fed g piece [] s buffer w
 unfolding owed
-fed_at_done piece s buffer w (heading t) h e = never (cc h.0)
-fed_at_done piece s buffer w (running l line) h e = never (cc h.0)
+fed_at_done piece s buffer w (heading t) h e = absurd (rw e at h)
+fed_at_done piece s buffer w (running l line) h e = absurd (rw e at h)
 fed_at_done piece s buffer w stopped h e = record { next = stopped; stands = h; owes = λ _. refl }
 
 -- ---- the input's end
@@ -149,37 +137,35 @@ unfolding last_line
 last_some l [] h = absurd (omega arith)
 last_some l (b ∷ line) h = answers_one l (b ∷ line)
 
-kept_some : (line buffer : List ℕ) (n : ℕ) → Kept line n buffer → 256 ≤ length buffer → 0 < n → 0 < length line
-kept_some line buffer n g h k =
-    ⊎_elim
-    (λ (p : n < 257). let e : length line ≡ n = ap length (g.whole (omega arith)) ∙ length-take-le n buffer (omega arith) in omega arith)
-    (λ (p : 257 ≤ n). let e : 256 < length line = g.long (omega arith) in omega arith)
-    (lt_or_ge n 257)
+kept_some : (line buffer : List ℕ) (n : Option ℕ) → Kept line n buffer → 256 ≤ length buffer → (n ≡ Some 0 → ⊥) → 0 < length line
+kept_some line buffer (Some zero) g h k = absurd (k refl)
+kept_some line buffer (Some (suc n)) g h k = let e : length line ≡ suc n = ap length g.1 ∙ length-take-le (suc n) buffer (omega (arith, g.0)) in omega arith
+kept_some line buffer None g h k = omega (arith, g)
 
-module _ (s : State) (buffer w : List ℕ) where
-  pub finished_recipe : (line : List ℕ) (g : Reading) → Stands g s buffer w → s.stage ≡ Recipe
-      → line ≡ on_recipe (read_text short (take s.count buffer)) (λ l. []) → Finished g line
+module _ (s : Stage) (buffer w : List ℕ) where
+  pub finished_recipe : (n : ℕ) (line : List ℕ) (g : Reading) → Stands g s buffer w → s ≡ Recipe n
+      → line ≡ on_recipe (read_text short (take n buffer)) (λ l. []) → Finished g line
   unfolding owed part_after output_of
-  finished_recipe line (heading t) h e x = rw h.2 (sym x)
-  finished_recipe line (running l m) h e x = never (cc h.0)
-  finished_recipe line stopped h e x = never (cc)
+  finished_recipe n line (heading t) h e x = let k = rw e at h in rw k.1 (sym x)
+  finished_recipe n line (running l m) h e x = absurd (rw e at h)
+  finished_recipe n line stopped h e x = absurd (rw e at h)
 
-  pub finished_between : (g : Reading) → Stands g s buffer w → s.stage ≡ Frames → s.count ≡ 0 → Finished g []
+  pub finished_between : (k : ℕ) (n : Option ℕ) (g : Reading) → Stands g s buffer w → s ≡ Frames k n → n ≡ Some 0 → Finished g []
   unfolding owed lines_after
-  finished_between (heading t) h e z = never (cc h.0)
-  finished_between (running l line) h e z = last_none l line (h.3.whole (omega arith) ∙ rw z)
-  finished_between stopped h e z = never (cc)
+  finished_between k n (heading t) h e z = absurd (rw e at h)
+  finished_between k n (running l line) h e z = let a = rw e at h in last_none l line (kept_none line buffer n a.2 z)
+  finished_between k n stopped h e z = absurd (rw e at h)
 
-  pub finished_line : (x : List ℕ) (g : Reading) → Stands g s buffer w → s.stage ≡ Frames → (s.count ≡ 0 → ⊥) → 256 ≤ length buffer
-      → ((l : List Step) (line : List ℕ) → Holds l (take (3 * s.steps) w) → Kept line s.count buffer → x ≡ frame_line l line) → Finished g x
+  pub finished_line : (k : ℕ) (n : Option ℕ) (x : List ℕ) (g : Reading) → Stands g s buffer w → s ≡ Frames k n → (n ≡ Some 0 → ⊥) → 256 ≤ length buffer
+      → ((l : List Step) (line : List ℕ) → Holds l (take (3 * k) w) → Kept line n buffer → x ≡ frame_line l line) → Finished g x
   unfolding owed lines_after
-  finished_line x (heading t) h e z b f = never (cc h.0)
-  finished_line x (running l line) h e z b f =
-      last_some l line (kept_some line buffer s.count h.3 b (omega arith)) ∙ sym (f l line h.2 h.3)
-  finished_line x stopped h e z b f = never (cc)
+  finished_line k n x (heading t) h e z b f = absurd (rw e at h)
+  finished_line k n x (running l line) h e z b f =
+      let a = rw e at h in last_some l line (kept_some line buffer n a.2 b z) ∙ sym (f l line a.1 a.2)
+  finished_line k n x stopped h e z b f = absurd (rw e at h)
 
-  pub finished_done : (g : Reading) → Stands g s buffer w → s.stage ≡ Done → Finished g []
+  pub finished_done : (g : Reading) → Stands g s buffer w → s ≡ Done → Finished g []
   unfolding owed
-  finished_done (heading t) h e = never (cc h.0)
-  finished_done (running l line) h e = never (cc h.0)
+  finished_done (heading t) h e = absurd (rw e at h)
+  finished_done (running l line) h e = absurd (rw e at h)
   finished_done stopped h e = refl

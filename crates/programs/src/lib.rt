@@ -8,22 +8,16 @@ use recipe::LONGEST_TEXT;
 // The bytes in which an empty line is looked for: those of the longest recipe, and the line feed after it.
 pub const LOOKED_AT: usize = LONGEST_TEXT + 1;
 
-// Where the input stands: in the recipe, in the frames, or after a refused recipe, where nothing is answered any more.
+// Where the input stands, and how much of it is kept.
 #[derive(Clone, Copy)]
 pub enum Stage {
-    Recipe,
-    Frames,
+    // In the recipe: so many bytes of it stand in the buffer.
+    Recipe { count: usize },
+    // In the frames: the recipe was read, and so many steps of it stand in the words; so many bytes of the present line stand in the buffer, or
+    // none do, since the line is longer than the longest frame.
+    Frames { steps: usize, kept: Option<usize> },
+    // After a refused recipe, where nothing is answered any more.
     Done,
-}
-
-// What is known after some of the input. In the recipe, count bytes of it stand in the buffer. In the frames, the recipe was read, and the
-// lent words hold its steps, as many as `steps` says; count bytes of the present line stand in the buffer, or count is 257, and the line is
-// longer than the longest frame.
-#[derive(Clone, Copy)]
-pub struct State {
-    pub stage: Stage,
-    pub count: usize,
-    pub steps: usize,
 }
 
 // Whether the empty line was found: not yet, yes, or not in the bytes in which it is looked for.
@@ -34,12 +28,11 @@ pub enum End {
     Endless,
 }
 
-// What whole lines came to: the place after them, the bytes put out, and whether out had too little room for more.
-#[derive(Drop)]
-pub struct Lines {
+// What a piece of the input came to: the place after it, and the bytes put out.
+#[derive(Clone, Copy)]
+pub struct Progress {
     pub at: usize,
     pub put: usize,
-    pub full: bool,
 }
 
 // What the call on frame lines answers: a refusal's number and place, or how many bytes of the lines it has read and how many bytes of

@@ -1,5 +1,5 @@
 -- The laws of `ranges`.
 pub mod Rules
-pub mod Ends
+pub mod Rulings
 pub mod Folding
 pub mod Covering

@@ -4,42 +4,32 @@ ghost use Rattle.std.specs.Prelude.{◌≡◌, ◌||◌, cond};
 ghost use Rattle.float_format.specs.Format.{binary64};
 ghost use Rattle.semantics.specs.Range.{doubles, wholes, infinite_end, holds_zero, greatest, is_negative, is_positive, fraction_low, fraction_high, absolute_range, fmod_low, fmod_high, fmod_range, ldexp_range, remainder_range, sum_low, sum_high, difference_low, difference_high, product_low, product_high, worked_range, step_range};
 ghost use Rattle.semantics.specs.Range as range;
-ghost use Rattle.values.specs.Seen.{outcome_of, RealOutcome};
-ghost use Rattle.ranges.specs.Seen.{RealRange, seen_range, bound_of, RealBound};
+ghost use Rattle.values.specs.Seen.{outcome_of};
+ghost use Rattle.ranges.specs.Seen.{seen_range, bound_of};
 ghost use Rattle.ranges.specs.Carried.{between, carried};
 
-use super::{AnswerEnds, Bound, Range};
-use float_format::Binary64;
-use integer_arithmetic::binary64::{difference, product, sum};
-use ordering::binary64::{fmax, fmin};
+use super::{Ends, Range, WholeRange};
+use float_format::Pattern;
+use integer_arithmetic::{difference, product, sum};
+use ordering::{fmax, fmin};
 use recipe::Step;
-use rounding::binary64;
-use steps::any;
+use rounding::{ceil, floor, lround, nearbyint, round, trunc};
 use steps::order::double_above;
 use twos_complement::signed;
-use values::Outcome;
 use values::step::{
     difference_of, double_of, is_infinite, ldexp_of, lround_of, real_of, sum_of, whole_of,
 };
+use values::{Refusal, Value};
 
 // The range between two ends, refused where either is.
-fn between(low: Outcome, high: Outcome) -> Bound
-    requires { RealOutcome low × RealOutcome high }
-    ensures { (bound_of result ≡ between (outcome_of low) (outcome_of high)) × RealBound result }
+fn between(low: Result<Value, Refusal>, high: Result<Value, Refusal>) -> Result<Range, Refusal>
+    ensures { bound_of result ≡ between (outcome_of low) (outcome_of high) }
 {
-    let l = match low {
-        Outcome::Done(v) => v,
-        Outcome::Refused(number) => return Bound::Refused(number),
-    };
-    let h = match high {
-        Outcome::Done(v) => v,
-        Outcome::Refused(number) => return Bound::Refused(number),
-    };
-    Bound::Ranged(Range::of(l, h))
+    Ok(Range::of(low?, high?))
 }
 
-fn doubles_of(low: u64, high: u64) -> Bound
-    ensures { (bound_of result ≡ carried (range.ranged (doubles low high))) × RealBound result }
+fn doubles_of(low: u64, high: u64) -> Result<Range, Refusal>
+    ensures { bound_of result ≡ carried (range.ranged (doubles low high)) }
 {
     between(real_of(low), real_of(high))
 }
@@ -58,27 +48,25 @@ fn is_positive(x: u64) -> bool
     double_above(x, 0)
 }
 
-pub fn infinite_end(low: u64, high: u64) -> bool
-    ensures { result ≡ infinite_end (doubles low high) }
-{
-    any(is_infinite(low), is_infinite(high))
-}
-
-pub fn holds_zero(low: u64, high: u64) -> bool
-    ensures { result ≡ holds_zero (doubles low high) }
-{
-    if is_positive(low) {
-        false
-    } else {
-        !is_negative(high)
+impl Ends {
+    pub fn has_infinite_end(self) -> bool
+        ensures { result ≡ infinite_end (doubles self.low self.high) }
+    {
+        is_infinite(self.low) | is_infinite(self.high)
     }
-}
 
-// The largest magnitude in a range.
-fn greatest(low: u64, high: u64) -> u64
-    ensures { result ≡ greatest (doubles low high) }
-{
-    fmax(Binary64::fabs(low), Binary64::fabs(high))
+    pub fn holds_zero(self) -> bool
+        ensures { result ≡ holds_zero (doubles self.low self.high) }
+    {
+        !is_positive(self.low) && !is_negative(self.high)
+    }
+
+    // The largest magnitude in a range.
+    fn greatest(self) -> u64
+        ensures { result ≡ greatest (doubles self.low self.high) }
+    {
+        fmax(self.low.fabs(), self.high.fabs())
+    }
 }
 
 // ---- rules by cases
@@ -109,23 +97,23 @@ fn fraction_high(x: u64) -> u64
 }
 
 // 16: a range across zero starts at +0.
-fn absolute_range(low: u64, high: u64) -> Bound
-    ensures { (bound_of result ≡ carried (range.ranged (absolute_range (doubles low high)))) × RealBound result }
+fn absolute_range(a: Ends) -> Result<Range, Refusal>
+    ensures { bound_of result ≡ carried (range.ranged (absolute_range (doubles a.low a.high))) }
 {
-    if is_negative(low) {
-        if is_positive(high) {
-            return doubles_of(0, greatest(low, high));
+    if is_negative(a.low) {
+        if is_positive(a.high) {
+            return doubles_of(0, a.greatest());
         }
-        return doubles_of(Binary64::fabs(high), Binary64::fabs(low));
+        return doubles_of(a.high.fabs(), a.low.fabs());
     }
-    doubles_of(Binary64::fabs(low), Binary64::fabs(high))
+    doubles_of(a.low.fabs(), a.high.fabs())
 }
 
-// 22, 24: whether a dividend from low to high has no remainder by a divisor from s to t.
-fn no_remainder(low: u64, high: u64, s: u64, t: u64) -> bool
-    ensures { result ≡ (infinite_end (doubles low high) || holds_zero (doubles s t)) }
+// 22, 24: whether a dividend in a has no remainder by a divisor in b.
+fn no_remainder(a: Ends, b: Ends) -> bool
+    ensures { result ≡ (infinite_end (doubles a.low a.high) || holds_zero (doubles b.low b.high)) }
 {
-    any(infinite_end(low, high), holds_zero(s, t))
+    a.has_infinite_end() | b.holds_zero()
 }
 
 // 22: m is the greatest magnitude of the divisor.
@@ -133,7 +121,7 @@ fn fmod_low(x: u64, m: u64) -> u64
     ensures { result ≡ fmod_low x m }
 {
     if is_negative(x) {
-        return Binary64::negate(fmin(Binary64::fabs(x), m));
+        return fmin(x.fabs(), m).negate();
     }
     0
 }
@@ -147,119 +135,113 @@ fn fmod_high(x: u64, m: u64) -> u64
     0
 }
 
-fn fmod_range(low: u64, high: u64, s: u64, t: u64) -> Bound
-    ensures { (bound_of result ≡ carried (fmod_range (doubles low high) (doubles s t))) × RealBound result }
+fn fmod_range(a: Ends, b: Ends) -> Result<Range, Refusal>
+    ensures { bound_of result ≡ carried (fmod_range (doubles a.low a.high) (doubles b.low b.high)) }
 {
-    if no_remainder(low, high, s, t) {
-        return Bound::Refused(20);
+    if no_remainder(a, b) {
+        return Err(Refusal::Undefined);
     }
-    let m = greatest(s, t);
-    doubles_of(fmod_low(low, m), fmod_high(high, m))
+    let m = b.greatest();
+    doubles_of(fmod_low(a.low, m), fmod_high(a.high, m))
 }
 
 // 23: away from zero by the greatest power, towards it by the least.
-pub fn low_power(low: u64, least: i64, most: i64) -> i64
-    ensures { result ≡ cond (is_negative low) most least }
+pub fn low_power(low: u64, n: WholeRange) -> i64
+    ensures { result ≡ cond (is_negative low) n.high n.low }
 {
     if is_negative(low) {
-        return most;
+        return n.high;
     }
-    least
+    n.low
 }
 
-pub fn high_power(high: u64, least: i64, most: i64) -> i64
-    ensures { result ≡ cond (is_positive high) most least }
+pub fn high_power(high: u64, n: WholeRange) -> i64
+    ensures { result ≡ cond (is_positive high) n.high n.low }
 {
     if is_positive(high) {
-        return most;
+        return n.high;
     }
-    least
+    n.low
 }
 
-fn ldexp_range(low: u64, high: u64, least: i64, most: i64) -> Bound
-    ensures { (bound_of result ≡ carried (ldexp_range (doubles low high) (wholes least most))) × RealBound result }
+fn ldexp_range(a: Ends, n: WholeRange) -> Result<Range, Refusal>
+    ensures { bound_of result ≡ carried (ldexp_range (doubles a.low a.high) (wholes n.low n.high)) }
 {
-    if infinite_end(low, high) {
-        return Bound::Refused(21);
+    if a.has_infinite_end() {
+        return Err(Refusal::Overflow);
     }
     between(
-        ldexp_of(low, low_power(low, least, most)),
-        ldexp_of(high, high_power(high, least, most)),
+        ldexp_of(a.low, low_power(a.low, n)),
+        ldexp_of(a.high, high_power(a.high, n)),
     )
 }
 
 // 24: no further from zero than the dividend, nor than the divisor.
-fn remainder_range(low: u64, high: u64, s: u64, t: u64) -> Bound
-    ensures { (bound_of result ≡ carried (remainder_range (doubles low high) (doubles s t))) × RealBound result }
+fn remainder_range(a: Ends, b: Ends) -> Result<Range, Refusal>
+    ensures { bound_of result ≡ carried (remainder_range (doubles a.low a.high) (doubles b.low b.high)) }
 {
-    if no_remainder(low, high, s, t) {
-        return Bound::Refused(20);
+    if no_remainder(a, b) {
+        return Err(Refusal::Undefined);
     }
-    let m = fmin(greatest(low, high), greatest(s, t));
-    doubles_of(Binary64::negate(m), m)
+    let m = fmin(a.greatest(), b.greatest());
+    doubles_of(m.negate(), m)
 }
 
-// 40 to 42: the answer's ends, of operands from low to high and from s to t.
-pub fn sum_ends(low: u64, high: u64, s: u64, t: u64) -> AnswerEnds
-    ensures { (result.low ≡ sum_low (doubles low high) (doubles s t)) × (result.high ≡ sum_high (doubles low high) (doubles s t)) }
+// 40 to 42: the answer's ends, of operands in a and in b.
+pub fn sum_ends(a: Ends, b: Ends) -> Ends
+    ensures { (result.low ≡ sum_low (doubles a.low a.high) (doubles b.low b.high)) × (result.high ≡ sum_high (doubles a.low a.high) (doubles b.low b.high)) }
 {
-    AnswerEnds {
-        low: sum(low, s),
-        high: sum(high, t),
+    Ends {
+        low: sum(a.low, b.low),
+        high: sum(a.high, b.high),
     }
 }
 
-pub fn difference_ends(low: u64, high: u64, s: u64, t: u64) -> AnswerEnds
-    ensures { (result.low ≡ difference_low (doubles low high) (doubles s t)) × (result.high ≡ difference_high (doubles low high) (doubles s t)) }
+pub fn difference_ends(a: Ends, b: Ends) -> Ends
+    ensures { (result.low ≡ difference_low (doubles a.low a.high) (doubles b.low b.high)) × (result.high ≡ difference_high (doubles a.low a.high) (doubles b.low b.high)) }
 {
-    AnswerEnds {
-        low: difference(low, t),
-        high: difference(high, s),
+    Ends {
+        low: difference(a.low, b.high),
+        high: difference(a.high, b.low),
     }
 }
 
 // Which of the four end products are the ends depends on the signs. Where one is infinite, the least or the greatest is.
-pub fn product_ends(low: u64, high: u64, s: u64, t: u64) -> AnswerEnds
-    ensures { (result.low ≡ product_low (doubles low high) (doubles s t)) × (result.high ≡ product_high (doubles low high) (doubles s t)) }
+pub fn product_ends(a: Ends, b: Ends) -> Ends
+    ensures { (result.low ≡ product_low (doubles a.low a.high) (doubles b.low b.high)) × (result.high ≡ product_high (doubles a.low a.high) (doubles b.low b.high)) }
 {
-    let a = product(low, s);
-    let b = product(low, t);
-    let c = product(high, s);
-    let d = product(high, t);
-    AnswerEnds {
-        low: fmin(fmin(a, b), fmin(c, d)),
-        high: fmax(fmax(a, b), fmax(c, d)),
+    let x = product(a.low, b.low);
+    let y = product(a.low, b.high);
+    let z = product(a.high, b.low);
+    let w = product(a.high, b.high);
+    Ends {
+        low: fmin(fmin(x, y), fmin(z, w)),
+        high: fmax(fmax(x, y), fmax(z, w)),
     }
 }
 
 // 40 to 42: the range between the answer's ends, where no end of an operand and neither of them is infinite.
-fn worked_range(low: u64, high: u64, s: u64, t: u64, ends: AnswerEnds) -> Bound
-    ensures { (bound_of result ≡ carried (worked_range (doubles low high) (doubles s t) (infinite_end (doubles ends.low ends.high)) ends.low ends.high)) × RealBound result }
+fn worked_range(a: Ends, b: Ends, answer: Ends) -> Result<Range, Refusal>
+    ensures { bound_of result ≡ carried (worked_range (doubles a.low a.high) (doubles b.low b.high) (infinite_end (doubles answer.low answer.high)) answer.low answer.high) }
 {
-    let from = ends.low;
-    let to = ends.high;
-    if any(infinite_end(low, high), infinite_end(s, t)) {
-        return Bound::Refused(20);
+    if a.has_infinite_end() | b.has_infinite_end() {
+        return Err(Refusal::Undefined);
     }
-    if infinite_end(from, to) {
-        return Bound::Refused(21);
+    if answer.has_infinite_end() {
+        return Err(Refusal::Overflow);
     }
-    doubles_of(from, to)
+    doubles_of(answer.low, answer.high)
 }
 
 // The range of the step t, a and b being its operands' ranges.
-pub fn step_range(t: Step, a: Range, b: Range) -> Bound
-    requires { RealRange a × RealRange b }
-    ensures { (bound_of result ≡ carried (step_range t (seen_range a) (seen_range b))) × RealBound result }
+#[tactic(auto, unfolding(semantics::specs::Range::range_rule, semantics::specs::Range::step_range))]
+pub fn step_range(t: Step, a: Range, b: Range) -> Result<Range, Refusal>
+    ensures { bound_of result ≡ carried (step_range t (seen_range a) (seen_range b)) }
 {
-    let low = a.low();
-    let high = a.high();
-    let least = a.least();
-    let most = a.most();
-    let low2 = b.low();
-    let high2 = b.high();
-    let least2 = b.least();
-    let most2 = b.most();
+    let x = a.ends();
+    let y = b.ends();
+    let m = a.wholes();
+    let n = b.wholes();
     let p = t.p;
     let q = t.q;
     let opcode = t.opcode;
@@ -268,32 +250,26 @@ pub fn step_range(t: Step, a: Range, b: Range) -> Bound
         0x02 => between(whole_of(signed(p)), whole_of(signed(q))),
         0x03 => doubles_of(p, p),
         0x04 => between(whole_of(signed(p)), whole_of(signed(p))),
-        0x10 => doubles_of(binary64::floor(low), binary64::floor(high)),
-        0x11 => doubles_of(binary64::ceil(low), binary64::ceil(high)),
-        0x12 => doubles_of(binary64::trunc(low), binary64::trunc(high)),
-        0x13 => doubles_of(binary64::round(low), binary64::round(high)),
-        0x14 => doubles_of(binary64::nearbyint(low), binary64::nearbyint(high)),
-        0x15 => doubles_of(fraction_low(low), fraction_high(high)),
-        0x16 => absolute_range(low, high),
-        0x17 => doubles_of(Binary64::negate(high), Binary64::negate(low)),
-        0x18 => between(lround_of(low), lround_of(high)),
-        0x20 => doubles_of(fmin(low, low2), fmin(high, high2)),
-        0x21 => doubles_of(fmax(low, low2), fmax(high, high2)),
-        0x22 => fmod_range(low, high, low2, high2),
-        0x23 => ldexp_range(low, high, least2, most2),
-        0x24 => remainder_range(low, high, low2, high2),
-        0x30 => between(sum_of(least, least2), sum_of(most, most2)),
-        0x31 => between(difference_of(least, most2), difference_of(most, least2)),
-        0x32 => between(double_of(least), double_of(most)),
-        0x40 => worked_range(low, high, low2, high2, sum_ends(low, high, low2, high2)),
-        0x41 => worked_range(
-            low,
-            high,
-            low2,
-            high2,
-            difference_ends(low, high, low2, high2),
-        ),
-        0x42 => worked_range(low, high, low2, high2, product_ends(low, high, low2, high2)),
+        0x10 => doubles_of(floor(x.low), floor(x.high)),
+        0x11 => doubles_of(ceil(x.low), ceil(x.high)),
+        0x12 => doubles_of(trunc(x.low), trunc(x.high)),
+        0x13 => doubles_of(round(x.low), round(x.high)),
+        0x14 => doubles_of(nearbyint(x.low), nearbyint(x.high)),
+        0x15 => doubles_of(fraction_low(x.low), fraction_high(x.high)),
+        0x16 => absolute_range(x),
+        0x17 => doubles_of(x.high.negate(), x.low.negate()),
+        0x18 => between(lround_of(x.low), lround_of(x.high)),
+        0x20 => doubles_of(fmin(x.low, y.low), fmin(x.high, y.high)),
+        0x21 => doubles_of(fmax(x.low, y.low), fmax(x.high, y.high)),
+        0x22 => fmod_range(x, y),
+        0x23 => ldexp_range(x, n),
+        0x24 => remainder_range(x, y),
+        0x30 => between(sum_of(m.low, n.low), sum_of(m.high, n.high)),
+        0x31 => between(difference_of(m.low, n.high), difference_of(m.high, n.low)),
+        0x32 => between(double_of(m.low), double_of(m.high)),
+        0x40 => worked_range(x, y, sum_ends(x, y)),
+        0x41 => worked_range(x, y, difference_ends(x, y)),
+        0x42 => worked_range(x, y, product_ends(x, y)),
         _ => between(whole_of(0), whole_of(0)),
     }
 }

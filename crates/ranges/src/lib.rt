@@ -1,14 +1,16 @@
 // Ranges, and the range rules.
 #![tactic(auto)]
 
+use values::Number;
+
 pub mod bounds;
 mod ranges;
 
-// A range of doubles, both ends included; neither is a NaN.
+// A range of doubles, both ends included.
 #[derive(Clone, Copy)]
 pub struct DoubleRange {
-    pub low: f64,
-    pub high: f64,
+    pub low: Number,
+    pub high: Number,
 }
 
 // A range of whole numbers, both ends included.
@@ -25,16 +27,9 @@ pub enum Range {
     Wholes(WholeRange),
 }
 
-// The low and the high answer of add, subtract or multiply, as patterns; either may be infinite.
-#[derive(Drop)]
-pub struct AnswerEnds {
+// The ends of a range of doubles as patterns, or the low and the high answer of add, subtract or multiply. Either may be infinite.
+#[derive(Clone, Copy)]
+pub struct Ends {
     pub low: u64,
     pub high: u64,
-}
-
-// What a step's range comes to: a range, or a refusal's number.
-#[derive(Drop)]
-pub enum Bound {
-    Ranged(Range),
-    Refused(u64),
 }

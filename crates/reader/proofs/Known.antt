@@ -10,12 +10,13 @@ use lib.Dec.{eqb}
 use lib.ListN.{length, get_or, set, length-append, length-set, get_or-eq_default}
 use lib.Seq.{get_or_at, get_or-set_same, get_or-set_other}
 use borrow.Author.Tests.{eqb-true, eqb-false}
+use Rattle.float_format.proofs.Units.{lt_or_ge}
 use Rattle.recipe.specs.declared.Kind.{Kind}
-use Rattle.recipe.specs.declared.Kind.TheVariants.{Double, Whole}
+use Rattle.recipe.specs.declared.Kind.TheVariants.{Double}
 use Rattle.recipe.specs.declared.Row.{Row}
 use Rattle.recipe.specs.declared.Row.TheVariants.{Unknown, Input, Constant, Unary, Binary}
 use Rattle.recipe.specs.declared.Step.{Step}
-use Rattle.recipe.specs.Table.{row_of, is_input, kind_number}
+use Rattle.recipe.specs.Table.{row_of, is_input}
 use Rattle.recipe.specs.Text.{most_steps, first, second, no_step, kind_of, kind_at, wrong_kind, inputs_in, step_refusal}
 use Rattle.recipe.proofs.Counts.{inputs_more}
 use Rattle.reader.specs.Checks.{wrong_kinds, refusal_by, Known}
@@ -35,8 +36,8 @@ by_kinds l t = rw (same_kinds l t (row_of t.opcode))
 
 -- ---- what is kept of the steps before
 
--- the number of a double's kind stands everywhere at the start
-pub known_none : (kinds : List ℕ) → length kinds ≡ most_steps → ((k : ℕ) → k < most_steps → get_or kinds k 0 ≡ 1) → Known [] 0 0 kinds
+-- a double's kind stands everywhere at the start
+pub known_none : (kinds : List Kind) → length kinds ≡ most_steps → ((k : ℕ) → k < most_steps → get_or kinds k Double ≡ Double) → Known [] 0 0 kinds
 unfolding inputs_in row_of
 known_none kinds e h = record { counted = refl; room = omega arith; sized = e; inputs_so_far = refl; kinds_so_far = h }
 
@@ -51,13 +52,8 @@ there_or_not : (k n : ℕ) (b : Bool) → eqb k n ≡ b → (k ≡ n) ⊎ (k ≡
 there_or_not k n true e = inl (eqb-true k n e)
 there_or_not k n false e = inr (eqb-false k n e)
 
--- a kind by its number
-numbered : (x : Kind) (m : ℕ) → m ≡ kind_number x → (m ≡ 2 → Whole ≡ x) × ((m ≡ 2 → ⊥) → Double ≡ x)
-numbered Double m e = (λ q. absurd (omega arith), λ h. refl)
-numbered Whole m e = (λ q. refl, λ h. absurd (h e))
-
-module _ (l : List Step) (n inputs : ℕ) (kinds : List ℕ) (g : Known l n inputs kinds) where
-  pub known_more : (t : Step) → n < most_steps → (c x : ℕ) → c ≡ cond (is_input (row_of t.opcode)) 1 0 → x ≡ kind_number (kind_of t)
+module _ (l : List Step) (n inputs : ℕ) (kinds : List Kind) (g : Known l n inputs kinds) where
+  pub known_more : (t : Step) → n < most_steps → (c : ℕ) (x : Kind) → c ≡ cond (is_input (row_of t.opcode)) 1 0 → x ≡ kind_of t
       → Known (l ++ (t ∷ [])) (n + 1) (inputs + c) (set kinds n x)
   known_more t h c x ec ex =
       record {
@@ -67,8 +63,8 @@ module _ (l : List Step) (n inputs : ℕ) (kinds : List ℕ) (g : Known l n inpu
         inputs_so_far = rw (inputs_more l t, ec, g.inputs_so_far);
         kinds_so_far = λ k m.
             ⊎_elim
-            (λ (e : k ≡ n). rw (e, get_or-set_same kinds n x 0 (omega (arith, g.sized)), get_or_at l t [] no_step n g.counted) ex)
-            (λ (e : k ≡ n → ⊥). rw (get_or-set_other kinds n k x 0 e, elsewhere l t no_step k (λ q. e (q ∙ g.counted))) (g.kinds_so_far k m))
+            (λ (e : k ≡ n). rw (e, get_or-set_same kinds n x Double (omega (arith, g.sized)), get_or_at l t [] no_step n g.counted) ex)
+            (λ (e : k ≡ n → ⊥). rw (get_or-set_other kinds n k x Double e, elsewhere l t no_step k (λ q. e (q ∙ g.counted))) (g.kinds_so_far k m))
             (there_or_not k n (eqb k n) refl);
       }
 
@@ -76,10 +72,10 @@ module _ (l : List Step) (n inputs : ℕ) (kinds : List ℕ) (g : Known l n inpu
   pub by_known : (t : Step) (a b : Kind) → a ≡ kind_at l (first t) → b ≡ kind_at l (second t) → refusal_by (row_of t.opcode) t n inputs a b ≡ step_refusal l t
   by_known t a b ea eb = rw (ea, eb, g.inputs_so_far, ← g.counted) (by_kinds l t)
 
-  -- an operand's kind: by its number, and of no step
-  pub kind_there : (k : ℕ) → k < most_steps → (get_or kinds k 0 ≡ 2 → Whole ≡ kind_at l k) × ((get_or kinds k 0 ≡ 2 → ⊥) → Double ≡ kind_at l k)
-  kind_there k h = numbered (kind_at l k) (get_or kinds k 0) (g.kinds_so_far k h)
-
-  pub kind_past : (k : ℕ) → most_steps ≤ k → Double ≡ kind_at l k
+  -- an operand's kind, and a double's where it is no step
+  past : (k : ℕ) → most_steps ≤ k → get_or kinds k Double ≡ kind_at l k
   unfolding row_of
-  kind_past k h = ap kind_of (sym (get_or-eq_default l no_step {n = k} (omega (arith, g.counted, g.room))))
+  past k h = get_or-eq_default kinds Double {n = k} (omega (arith, g.sized)) ∙ ap kind_of (sym (get_or-eq_default l no_step {n = k} (omega (arith, g.counted, g.room))))
+
+  pub kind_kept : (k : ℕ) → get_or kinds k Double ≡ kind_at l k
+  kind_kept k = ⊎_elim (g.kinds_so_far k) (past k) (lt_or_ge k most_steps)

@@ -3,3 +3,4 @@ mod Fields
 mod Steps
 mod Known
 mod Reading
+pub mod Laws

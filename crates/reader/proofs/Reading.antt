@@ -6,9 +6,11 @@ use mathlib.Core.List.{List, [], ◌∷◌, ◌++◌}
 use Prim.Native.Nat.{ℕ, ◌+◌, ◌-◌, ◌*◌, ◌/◌, ◌%◌, ◌≤◌, ◌<◌}
 use native.Mathlib.Omega.{arith}
 use lib.ListN.{length, get_or, set, drop}
+use Rattle.recipe.specs.declared.Kind.{Kind}
+use Rattle.recipe.specs.declared.Kind.TheVariants.{Double}
 use Rattle.recipe.specs.declared.Step.{Step}
 use Rattle.recipe.specs.declared.Reading.{Reading}
-use Rattle.recipe.specs.Table.{row_of, is_input, kind_number}
+use Rattle.recipe.specs.Table.{row_of, is_input}
 use Rattle.recipe.specs.Text.{most_steps, short, line_length, longest, good, malformed, kind_of, step_refusal, line_at, read_from, bad_length, read_text}
 use Rattle.recipe.specs.Packed.{put_at, put_steps, steps_in}
 use Rattle.recipe.specs.Answer.{Says, Leaves, Refused}
@@ -20,7 +22,7 @@ use Rattle.reader.proofs.Steps.{read_good, read_refused, read_malformed, read_do
 use Rattle.reader.proofs.Known.{known_none, known_more}
 
 -- of the text s, of n lines, i are read: their steps stand in the words w, which were v, with what is kept beside them
-pub record Going (s : List ℕ) (n : ℕ) (v w kinds : List ℕ) (inputs i : ℕ) : Type 0 where
+pub record Going (s : List ℕ) (n : ℕ) (v w : List ℕ) (kinds : List Kind) (inputs i : ℕ) : Type 0 where
   pub within : i ≤ n
   pub room : n ≤ most_steps
   pub whole : n * line_length short ≤ length s
@@ -31,7 +33,7 @@ pub record Going (s : List ℕ) (n : ℕ) (v w kinds : List ℕ) (inputs i : ℕ
   pub known : Known (steps_in w i) i inputs kinds
   pub same : read_text short s ≡ read_from short s (n - i) i (steps_in w i)
 
-pub going_start : (s v kinds : List ℕ) → 3 * most_steps ≤ length v → length kinds ≡ most_steps → ((k : ℕ) → k < most_steps → get_or kinds k 0 ≡ 1)
+pub going_start : (s v : List ℕ) (kinds : List Kind) → 3 * most_steps ≤ length v → length kinds ≡ most_steps → ((k : ℕ) → k < most_steps → get_or kinds k Double ≡ Double)
     → bad_length short (length s) ≡ false → Going s (length s / line_length short) v v kinds 0 0
 unfolding steps_in put_steps
 going_start s v kinds e z f h =
@@ -58,11 +60,11 @@ Answers s r v w = (length w ≡ length v) × Says (read_text short s) r w × Lea
 pub says_bad : (s v : List ℕ) (r : Reading) → bad_length short (length s) ≡ true → Refused 10 0 r → Answers s r v v
 says_bad s v r h e = rw (bad_text short s h) (refl, e, refl)
 
-module _ (s : List ℕ) (n : ℕ) (v w kinds : List ℕ) (inputs i : ℕ) (g : Going s n v w kinds inputs i) where
+module _ (s : List ℕ) (n : ℕ) (v w : List ℕ) (kinds : List Kind) (inputs i : ℕ) (g : Going s n v w kinds inputs i) where
   -- one step more, put into the words
   pub going_more : i < n → (t : Step) → line_at short s (i * line_length short) ≡ good t → step_refusal (steps_in w i) t ≡ 0
       → (u : List ℕ) → u ≡ put_at w i t → steps_in u (i + 1) ≡ steps_in w i ++ (t ∷ [])
-      → (c : ℕ) → c ≡ cond (is_input (row_of t.opcode)) 1 0 → c ≤ 1 → (x : ℕ) → x ≡ kind_number (kind_of t) → Going s n v u (set kinds i x) (inputs + c) (i + 1)
+      → (c : ℕ) → c ≡ cond (is_input (row_of t.opcode)) 1 0 → c ≤ 1 → (x : Kind) → x ≡ kind_of t → Going s n v u (set kinds i x) (inputs + c) (i + 1)
   going_more h t e z u eu more c ec lc x ex =
       let fits : 3 * i + 2 < length w = omega (arith, g.room, g.wide, g.long) in
       record {

@@ -10,16 +10,16 @@ use lib.ListN.{length}
 use Rattle.recipe.specs.declared.Step.{Step}
 use Rattle.recipe.specs.Text.{Form, line_length, Line, good, malformed, steps, refused, added, stopped, step_refusal, judged, next_of, on_next, line_at, read_from, bad_length, read_text}
 use Rattle.recipe.proofs.Counts.{never}
-use Rattle.reader.specs.declared.lines.Line as code
+use Rattle.std.specs.Prelude.{Some, None}
 use Rattle.reader.specs.Checks.{told}
 
 -- ---- a line as the code tells it
 
-pub told_good : (x : Line) (t : Step) → told x ≡ code.TheVariants.Good t → x ≡ good t
+pub told_good : (x : Line) (t : Step) → told x ≡ Some t → x ≡ good t
 told_good (good u) t e = let q : u ≡ t = cc in ap good q
 told_good malformed t e = never (cc)
 
-pub told_malformed : (x : Line) → told x ≡ code.TheVariants.Malformed → x ≡ malformed
+pub told_malformed : (x : Line) → told x ≡ None → x ≡ malformed
 told_malformed (good u) e = never (cc)
 told_malformed malformed e = refl
 

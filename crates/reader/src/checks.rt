@@ -1,27 +1,21 @@
 // What one step is refused for: the checks 12 to 17 of document 01's "Turning text down", in its order.
-ghost use Rattle.std.specs.Prelude.{◌≡◌, cond, List, ℕ, ◌≤◌};
+ghost use Rattle.std.specs.Prelude.{◌≡◌, cond, List, ℕ, ◌≤◌, get_or};
+ghost use Rattle.recipe.specs.declared.Kind.TheVariants.{Double};
 ghost use Rattle.recipe.specs.declared.Step.{Step};
 ghost use Rattle.recipe.specs.Table.{row_of, is_input};
-ghost use Rattle.recipe.specs.Text.{is_unknown, unused_set, operand_ahead, bad_range, kind_at, step_refusal};
-ghost use Rattle.reader.specs.Checks.{wrong_kinds, refusal_by, Known};
+ghost use Rattle.recipe.specs.Text.{is_unknown, unused_set, operand_ahead, bad_range, step_refusal};
+ghost use Rattle.reader.specs.Checks.{wrong_kinds, refusal_by, refusal_number, Known};
 
-use float_format::Binary64;
-use recipe::{Kind, MOST_STEPS, Row, Step};
-use steps::any;
+use float_format::Pattern;
+use recipe::{Fault, Kind, MOST_STEPS, Row, Step};
 use steps::order::{double_above, whole_above};
-use steps::table::{is_input, same_kind};
+use steps::table::is_input;
 
 // Check 12: an opcode that the table does not have.
 fn is_unknown(row: Row) -> bool
     ensures { result ≡ is_unknown row }
 {
-    match row {
-        Row::Unknown => true,
-        Row::Input(_) => false,
-        Row::Constant(_) => false,
-        Row::Unary(_, _) => false,
-        Row::Binary(_, _, _) => false,
-    }
+    matches!(row, Row::Unknown)
 }
 
 // Check 13: a field that the step does not use is not zero.
@@ -34,10 +28,10 @@ fn unused_set(row: Row, t: Step) -> bool
     let q = t.q != 0;
     match row {
         Row::Unknown => false,
-        Row::Input(_) => any(a, b),
-        Row::Constant(_) => any(any(a, b), q),
-        Row::Unary(_, _) => any(any(b, p), q),
-        Row::Binary(_, _, _) => any(p, q),
+        Row::Input(_) => a | b,
+        Row::Constant(_) => a | b | q,
+        Row::Unary(_, _) => b | p | q,
+        Row::Binary(_, _, _) => p | q,
     }
 }
 
@@ -48,11 +42,9 @@ fn operand_ahead(row: Row, n: u64, t: Step) -> bool
     let a = n <= t.a.0 as u64;
     let b = n <= t.b.0 as u64;
     match row {
-        Row::Unknown => false,
-        Row::Input(_) => false,
-        Row::Constant(_) => false,
+        Row::Unknown | Row::Input(_) | Row::Constant(_) => false,
         Row::Unary(_, _) => a,
-        Row::Binary(_, _, _) => any(a, b),
+        Row::Binary(_, _, _) => a | b,
     }
 }
 
@@ -61,11 +53,9 @@ fn wrong_kind(row: Row, a: Kind, b: Kind) -> bool
     ensures { result ≡ wrong_kinds row a b }
 {
     match row {
-        Row::Unknown => false,
-        Row::Input(_) => false,
-        Row::Constant(_) => false,
-        Row::Unary(x, _) => !same_kind(a, x),
-        Row::Binary(x, y, _) => any(!same_kind(a, x), !same_kind(b, y)),
+        Row::Unknown | Row::Input(_) | Row::Constant(_) => false,
+        Row::Unary(x, _) => a != x,
+        Row::Binary(x, y, _) => (a != x) | (b != y),
     }
 }
 
@@ -78,46 +68,42 @@ fn bad_range(row: Row, t: Step) -> bool
     match row {
         Row::Unknown => false,
         Row::Input(k) => match k {
-            Kind::Double => any(
-                any(Binary64::is_nan(p), Binary64::is_nan(q)),
-                double_above(p, q),
-            ),
+            Kind::Double => p.is_nan() | q.is_nan() | double_above(p, q),
             Kind::Whole => whole_above(p, q),
         },
         Row::Constant(k) => match k {
-            Kind::Double => Binary64::is_nan(p),
+            Kind::Double => p.is_nan(),
             Kind::Whole => false,
         },
-        Row::Unary(_, _) => false,
-        Row::Binary(_, _, _) => false,
+        Row::Unary(_, _) | Row::Binary(_, _, _) => false,
     }
 }
 
-// The first check that step n, with the operands' kinds a and b and so many inputs before it, does not pass; 0 where it passes all.
-fn refusal_of(row: Row, t: Step, n: u64, inputs: u64, a: Kind, b: Kind) -> u64
-    ensures { result ≡ refusal_by row t n inputs a b }
+// The first check that step n, with the operands' kinds a and b and so many inputs before it, does not pass, if any.
+fn refusal_of(row: Row, t: Step, n: u64, inputs: u64, a: Kind, b: Kind) -> Option<Fault>
+    ensures { refusal_number result ≡ refusal_by row t n inputs a b }
 {
     if is_unknown(row) {
-        return 12;
+        return Some(Fault::UnknownOpcode);
     }
     if unused_set(row, t) {
-        return 13;
+        return Some(Fault::UnusedField);
     }
     if operand_ahead(row, n, t) {
-        return 14;
+        return Some(Fault::OperandAhead);
     }
     if wrong_kind(row, a, b) {
-        return 15;
+        return Some(Fault::WrongKind);
     }
     if bad_range(row, t) {
-        return 16;
+        return Some(Fault::BadRange);
     }
     if is_input(row) {
         if 16 <= inputs {
-            return 17;
+            return Some(Fault::TooManyInputs);
         }
     }
-    0
+    None
 }
 
 // The kind of step k, by the kinds of the steps so far, and double, as of an unknown opcode, where k is none of them: check 14 turns such an
@@ -125,24 +111,22 @@ fn refusal_of(row: Row, t: Step, n: u64, inputs: u64, a: Kind, b: Kind) -> u64
 //
 // The kinds are kept as the steps are read: to look each up in the table again, by the opcode in the words, takes branches that no processor
 // foresees.
-fn kind_at(kinds: &[u8; MOST_STEPS], k: u16) -> Kind
-    ensures { (l : List Step) (n inputs : ℕ) → Known l n inputs kinds.now → result ≡ kind_at l k }
+fn kind_at(kinds: &[Kind; MOST_STEPS], k: u16) -> Kind
+    ensures { result ≡ get_or kinds.now k Double }
 {
-    let k = k as usize;
-    if MOST_STEPS <= k {
-        return Kind::Double;
-    }
-    if kinds[k] == 2 {
-        Kind::Whole
-    } else {
-        Kind::Double
-    }
+    kinds.get(k as usize).copied().unwrap_or(Kind::Double)
 }
 
-// What the step t of this row is refused for, after n steps of these kinds, so many of them inputs; 0 where it passes.
-pub(crate) fn judge(kinds: &[u8; MOST_STEPS], n: u64, inputs: u64, row: Row, t: Step) -> u64
+// What the step t of this row is refused for, after n steps of these kinds, so many of them inputs, if for anything.
+pub(crate) fn judge(
+    kinds: &[Kind; MOST_STEPS],
+    n: u64,
+    inputs: u64,
+    row: Row,
+    t: Step,
+) -> Option<Fault>
     requires { row ≡ row_of t.opcode }
-    ensures { (l : List Step) → Known l n inputs kinds.now → result ≡ step_refusal l t }
+    ensures { (l : List Step) → Known l n inputs kinds.now → refusal_number result ≡ step_refusal l t }
 {
     let a = kind_at(kinds, t.a.0);
     let b = kind_at(kinds, t.b.0);

@@ -3,13 +3,14 @@
 
 ghost use Rattle.std.specs.Prelude.{◌≡◌, ◌*◌, ◌≤◌, length};
 ghost use Rattle.recipe.specs.Text.{most_steps, short, read_text, bad_length};
-ghost use Rattle.recipe.specs.Answer.{Says, Leaves, Refused};
+ghost use Rattle.recipe.specs.Answer.{Says, Leaves};
+ghost use Rattle.reader.specs.Checks.{reading_of};
 
 use checks::{input_count, judge};
-use lines::{Line, line_of};
-use recipe::{LINE_LENGTH, LONGEST_TEXT, MOST_STEPS, Reading, StepNumber};
-use steps::table::{answer_kind, kind_number, row_of};
-use steps::{any, put_step};
+use lines::line_of;
+use recipe::{Fault, Kind, LINE_LENGTH, LONGEST_TEXT, MOST_STEPS, Refusal, StepNumber};
+use steps::put_step;
+use steps::table::{answer_kind, row_of};
 
 mod checks;
 mod lines;
@@ -18,18 +19,7 @@ mod lines;
 fn bad_length(n: usize) -> bool
     ensures { result ≡ bad_length short n }
 {
-    any(any(n == 0, n % LINE_LENGTH != 0), LONGEST_TEXT < n)
-}
-
-// The answer to a text that is turned down at a place.
-fn refused(number: u64, place: StepNumber) -> Reading
-    ensures { Refused number place.0 result }
-{
-    Reading {
-        count: 0,
-        refusal: number,
-        place,
-    }
+    (n == 0) | (n % LINE_LENGTH != 0) | (LONGEST_TEXT < n)
 }
 
 // The steps of a recipe's text: lines of 39 bytes, 1 to 128 of them. Each step is put into three of the words that the caller lends, and the
@@ -42,43 +32,42 @@ fn refused(number: u64, place: StepNumber) -> Reading
 //
 // The words are working memory: none is read, none past those of the steps is written, and after a refusal they may hold the steps before the
 // fault. So this is not an entry point: the calls of the crates above lend words of their own.
-pub fn read(text: &[u8], steps: &mut [u64]) -> Reading
+pub fn read(text: &[u8], steps: &mut [u64]) -> Result<usize, Refusal>
     requires { 3 * most_steps ≤ length steps.old }
     ensures { (length steps.new ≡ length steps.old)
-        × Says (read_text short text.now) result steps.new
+        × Says (read_text short text.now) (reading_of result) steps.new
         × Leaves (read_text short text.now) steps.old steps.new }
 {
     let size = text.len();
     if bad_length(size) {
-        return refused(10, StepNumber(0));
+        return Err(Refusal {
+            fault: Fault::Length,
+            place: StepNumber(0),
+        });
     }
     let n = size / LINE_LENGTH;
-    // the number of each step's kind, and of a double's where no step stands yet
-    let mut kinds = [1u8; MOST_STEPS];
+    // each step's kind, and double where no step stands yet
+    let mut kinds = [Kind::Double; MOST_STEPS];
     let mut inputs: u64 = 0;
-    let mut i: usize = 0;
-    while i < n {
+    for i in 0..n {
+        let place = StepNumber(i as u16);
         let at = i * LINE_LENGTH;
-        let t = match line_of(&text[at..at + LINE_LENGTH]) {
-            Line::Good(t) => t,
-            Line::Malformed => return refused(11, StepNumber(i as u16)),
+        let Some(t) = line_of(&text[at..at + LINE_LENGTH]) else {
+            return Err(Refusal {
+                fault: Fault::Malformed,
+                place,
+            });
         };
         // What the row says is asked while its tests are still at hand: the compiler then folds the answers into them.
         let row = row_of(t.opcode);
-        let kind = kind_number(answer_kind(row));
+        let kind = answer_kind(row);
         let counted = input_count(row);
-        let refusal = judge(&kinds, i as u64, inputs, row, t);
-        if refusal != 0 {
-            return refused(refusal, StepNumber(i as u16));
+        if let Some(fault) = judge(&kinds, i as u64, inputs, row, t) {
+            return Err(Refusal { fault, place });
         }
         put_step(steps, i, t);
         kinds[i] = kind;
         inputs += counted;
-        i += 1;
     }
-    Reading {
-        count: n,
-        refusal: 0,
-        place: StepNumber(0),
-    }
+    Ok(n)
 }

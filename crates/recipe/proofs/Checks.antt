@@ -14,8 +14,7 @@ use borrow.Author.Tests.{eqb-true, ltb-false, le-ltb}
 use Rattle.float_format.specs.Format.{binary64, is_nan}
 use Rattle.float_format.specs.Number.{AtMost}
 use Rattle.hexadecimal.specs.Hex.{field_of}
-use Rattle.hexadecimal.specs.declared.Field.{Field}
-use Rattle.hexadecimal.specs.declared.Field.TheVariants.{Value, Malformed as Bad}
+use Rattle.std.specs.Prelude.{Option, Some, None}
 use Rattle.recipe.specs.declared.Kind.TheVariants.{Double, Whole}
 use Rattle.recipe.specs.declared.Row.TheVariants.{Input}
 use Rattle.recipe.specs.declared.Step.{Step}
@@ -32,15 +31,15 @@ bad_text f s e = rw e
 
 -- ---- refusal 11
 
-ended : (o a b p q : Field) (feed : Bool) (t : Step) → from_fields o a b p q feed ≡ good t → feed ≡ true
+ended : (o a b p q : Option ℕ) (feed : Bool) (t : Step) → from_fields o a b p q feed ≡ good t → feed ≡ true
 unfolding from_fields
-ended (Value o) (Value a) (Value b) (Value p) (Value q) true t e = refl
-ended (Value o) (Value a) (Value b) (Value p) (Value q) false t e = never (cc)
-ended (Value o) (Value a) (Value b) (Value p) Bad feed t e = never (cc)
-ended (Value o) (Value a) (Value b) Bad q feed t e = never (cc)
-ended (Value o) (Value a) Bad p q feed t e = never (cc)
-ended (Value o) Bad b p q feed t e = never (cc)
-ended Bad a b p q feed t e = never (cc)
+ended (Some o) (Some a) (Some b) (Some p) (Some q) true t e = refl
+ended (Some o) (Some a) (Some b) (Some p) (Some q) false t e = never (cc)
+ended (Some o) (Some a) (Some b) (Some p) None feed t e = never (cc)
+ended (Some o) (Some a) (Some b) None q feed t e = never (cc)
+ended (Some o) (Some a) None p q feed t e = never (cc)
+ended (Some o) None b p q feed t e = never (cc)
+ended None a b p q feed t e = never (cc)
 
 -- A line that is read ends with a line feed.
 pub line_ends : (f : Form) (s : List ℕ) (at : ℕ) (t : Step) → line_at f s at ≡ good t → get_or s (at + 34 + 2 * f.operand) 0 ≡ 10

@@ -3,3 +3,4 @@ pub mod Table
 pub mod Text
 pub mod Packed
 pub mod Answer
+pub mod Fault

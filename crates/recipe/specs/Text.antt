@@ -1,14 +1,12 @@
 -- A recipe's text read to its steps, or turned down by the first fault: refusal 10, then line by line 11 to 17 (document 01, "Recipe
 -- text" and "Turning text down"). Definitions only; assumes nothing.
-use Rattle.std.specs.Prelude.{Bool, true, false, not, ◌&&◌, ◌||◌, cond, List, [], ◌∷◌, ◌++◌, ℕ, zero, suc, ◌+◌, ◌*◌, ◌/◌, ◌%◌, ltb, leb, eqb, length, get_or}
+use Rattle.std.specs.Prelude.{Bool, true, false, not, ◌&&◌, ◌||◌, cond, List, [], ◌∷◌, ◌++◌, ℕ, zero, suc, ◌+◌, ◌*◌, ◌/◌, ◌%◌, ltb, leb, eqb, length, get_or, Option, Some, None}
 use Rattle.std.specs.Int.Signed.{le_z}
 use Rattle.std.specs.Int.{w64}
 use Rattle.std.proofs.Common.{to_z}
 use Rattle.float_format.specs.Format.{binary64, is_nan}
 use Rattle.float_format.specs.Number.{below}
 use Rattle.hexadecimal.specs.Hex.{field_of}
-use Rattle.hexadecimal.specs.declared.Field.{Field}
-use Rattle.hexadecimal.specs.declared.Field.TheVariants.{Value, Malformed as Bad}
 use Rattle.recipe.specs.declared.Kind.{Kind}
 use Rattle.recipe.specs.declared.Kind.TheVariants.{Double, Whole}
 use Rattle.recipe.specs.declared.Row.{Row}
@@ -46,13 +44,13 @@ pub data Line : Type 0 where
 abbrev pub step : ℕ → ℕ → ℕ → ℕ → ℕ → Step
 step opcode a b p q = record { opcode = opcode; a = record { 0 = a }; b = record { 0 = b }; p = p; q = q }
 
-unfoldable pub from_fields : Field → Field → Field → Field → Field → Bool → Line
-from_fields (Value opcode) (Value a) (Value b) (Value p) (Value q) ended = cond ended (good (step opcode a b p q)) malformed
-from_fields (Value opcode) (Value a) (Value b) (Value p) Bad ended = malformed
-from_fields (Value opcode) (Value a) (Value b) Bad q ended = malformed
-from_fields (Value opcode) (Value a) Bad p q ended = malformed
-from_fields (Value opcode) Bad b p q ended = malformed
-from_fields Bad a b p q ended = malformed
+unfoldable pub from_fields : Option ℕ → Option ℕ → Option ℕ → Option ℕ → Option ℕ → Bool → Line
+from_fields (Some opcode) (Some a) (Some b) (Some p) (Some q) ended = cond ended (good (step opcode a b p q)) malformed
+from_fields (Some opcode) (Some a) (Some b) (Some p) None ended = malformed
+from_fields (Some opcode) (Some a) (Some b) None q ended = malformed
+from_fields (Some opcode) (Some a) None p q ended = malformed
+from_fields (Some opcode) None b p q ended = malformed
+from_fields None a b p q ended = malformed
 
 -- the line of the text s that starts at a byte; malformed is refusal 11
 unfoldable pub line_at : Form → List ℕ → ℕ → Line

@@ -2,6 +2,9 @@
 // shows what holds of that, and the functions stand in the crates above.
 #![tactic(auto)]
 
+ghost use Rattle.std.specs.Prelude.{◌≡◌};
+ghost use Rattle.recipe.specs.Fault.{number_of};
+
 // The most steps that a recipe has.
 pub const MOST_STEPS: usize = 128;
 
@@ -22,7 +25,7 @@ pub struct StepNumber(pub u16);
 pub struct InputNumber(pub u16);
 
 // What a value is: a double, or a whole number of 64 bits with its sign.
-#[derive(Clone, Copy)]
+#[derive(Clone, Copy, PartialEq, Eq)]
 pub enum Kind {
     Double,
     Whole,
@@ -46,6 +49,34 @@ pub struct Step {
     pub b: StepNumber,
     pub p: u64,
     pub q: u64,
+}
+
+// Why a text is turned down, by its number in document 01's "Turning text down".
+#[derive(Clone, Copy, PartialEq, Eq)]
+pub enum Fault {
+    Length = 10,
+    Malformed = 11,
+    UnknownOpcode = 12,
+    UnusedField = 13,
+    OperandAhead = 14,
+    WrongKind = 15,
+    BadRange = 16,
+    TooManyInputs = 17,
+}
+
+impl From<Fault> for u64 {
+    ghost from_gives = { λ fault number. number ≡ number_of fault };
+
+    fn from(fault: Fault) -> u64 {
+        fault as u64
+    }
+}
+
+// A text's first fault and the step where it is; of a wrong length, step 0.
+#[derive(Clone, Copy)]
+pub struct Refusal {
+    pub fault: Fault,
+    pub place: StepNumber,
 }
 
 // What the reader answers: how many steps it read. Or the number of a refusal, 10 to 17, and its place, a step or 0 of refusal 10, with

@@ -7,7 +7,7 @@ use native.Mathlib.Nat.{mod-eq_of_lt, mod-lt, le-div_iff_mul-le, div-eq_of_lt}
 use native.Mathlib.Omega.{arith}
 use lib.Dec.{leb, ltb, eqb}
 use lib.Pow.{pow_pos}
-use borrow.Author.Tests.{eq-eqb, ne_eqb, lt-ltb, le-ltb, le-leb, lt-leb, leb-false, eqb-false, ltb-true}
+use borrow.Author.Tests.{eq-eqb, ne_eqb, lt-ltb, le-ltb, lt-leb, leb-false, eqb-false, ltb-true}
 use Rattle.float_format.specs.Format.{Format, sign_bit, infinity, default_nan, negative, unsigned, signed, is_nan, is_infinite, is_zero, quieted}
 use Rattle.float_format.specs.Number.{magnitude, encode, units_of}
 use Rattle.float_format.specs.Width.{InWord}
@@ -187,30 +187,3 @@ module _ (f : Format) (x y : ℕ) where
             ∙ sym (finite_operands f x y o.finite_x o.finite_y o.nonzero).is,
         omega (arith, zero_le f x o.pattern, below_sign f y),
       )
-
-  -- The code's test, as it is made: t is the first two parts of it, i is infinity's pattern.
-  pub special_true : (i a b : ℕ) (t : Bool) → i ≡ infinity f → a ≡ unsigned f x → b ≡ unsigned f y
-      → ((i ≤ a) × (t ≡ leb i a)) ⊎ ((a < i) × (t ≡ leb i b)) → (i ≤ a) ⊎ ((a < i) × (i ≤ b)) → t ≡ is_special f x y
-  special_true i a b t ei ea eb came met = tested ∙ sym (ap (λ (s : Bool). s || eqb (unsigned f y) 0) parts)
-    where
-      one : (leb i a || leb i b) ≡ true
-      one = ⊎_elim (λ h. ap (λ (s : Bool). s || leb i b) (le-leb i a h)) (λ h. ap (λ (s : Bool). s || leb i b) (lt-leb i a h.0) ∙ le-leb i b h.1) met
-
-      tested : t ≡ true
-      tested =
-          ⊎_elim
-          (λ h. h.1 ∙ le-leb i a h.0)
-          (λ h. h.1 ∙ sym (ap (λ (s : Bool). s || leb i b) (lt-leb i a h.0)) ∙ one)
-          came
-
-      parts : (leb (infinity f) (unsigned f x) || leb (infinity f) (unsigned f y)) ≡ true
-      parts = rw (← ei, ← ea, ← eb) one
-
-  pub special_false : (i a b : ℕ) → i ≡ infinity f → a ≡ unsigned f x → b ≡ unsigned f y → a < i → b < i → eqb b 0 ≡ is_special f x y
-  special_false i a b ei ea eb la lb = ap (λ (n : ℕ). eqb n 0) eb ∙ sym (ap (λ (s : Bool). s || eqb (unsigned f y) 0) parts)
-    where
-      none : (leb i a || leb i b) ≡ false
-      none = ap (λ (s : Bool). s || leb i b) (lt-leb i a la) ∙ lt-leb i b lb
-
-      parts : (leb (infinity f) (unsigned f x) || leb (infinity f) (unsigned f y)) ≡ false
-      parts = rw (← ei, ← ea, ← eb) none

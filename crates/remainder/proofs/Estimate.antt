@@ -1,11 +1,10 @@
 -- A remainder from an estimate of the quotient. S cuts n and d to their leading bits, high and top, top rounded up: a quotient q of those
 -- that is right, or one too small, is right for n and d, or one too small. Plain arithmetic; no format here. Assumes nothing.
-use mathlib.Core.Path.{◌≡◌, sym, ap, ◌∙◌}
+use mathlib.Core.Path.{◌≡◌, ap, ◌∙◌}
 use mathlib.Core.Logic.{⊎_elim}
-use Prim.Native.Nat.{ℕ, suc, ◌+◌, ◌-◌, ◌*◌, ◌/◌, ◌%◌, ◌≤◌, ◌<◌}
+use Prim.Native.Nat.{ℕ, ◌+◌, ◌*◌, ◌/◌, ◌%◌, ◌≤◌, ◌<◌}
 use native.Mathlib.Nat.{div-add-mod', mod-lt, div-mul-le_self, lt-div-mul-add, le-div_iff_mul-le, mul-le-mul_left, mul-le-mul_right, mul-le-mul}
 use native.Mathlib.Omega.{arith}
-use lib.Arith.{digits_mod}
 use Rattle.float_format.proofs.Units.{lt_or_ge}
 
 -- ---- the certificate
@@ -14,17 +13,6 @@ use Rattle.float_format.proofs.Units.{lt_or_ge}
 pub record Near (n d q : ℕ) : Type 0 where
   pub under : q * d ≤ n
   pub over : n < q * d + 2 * d
-
--- one more subtraction, where it can be made, leaves the remainder
-module _ (n d q : ℕ) (w : Near n d q) where
-  pub right : n - q * d < d → n - q * d ≡ n % d
-  right h = sym (ap (λ (k : ℕ). k % d) (omega (arith, w.under)) ∙ digits_mod q h)
-
-  pub one_less : d ≤ n - q * d → n - q * d - d ≡ n % d
-  one_less h = sym (ap (λ (k : ℕ). k % d) split ∙ digits_mod (suc q) (omega (arith, w.over)))
-    where
-      split : n ≡ suc q * d + (n - q * d - d)
-      split = omega (arith, w.under)
 
 -- ---- what an estimate by the leading bits gives
 

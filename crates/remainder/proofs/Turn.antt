@@ -68,10 +68,6 @@ turn_on r c left y h =
     rem_rem (r * 2 ^ c) (2 ^ (left - c)) y
     ∙ ap (λ (n : ℕ). n % y) (mul_assoc r (2 ^ c) (2 ^ (left - c)) ∙ ap (λ (n : ℕ). r * n) (sym (pow-add 2 c (left - c)) ∙ ap (λ (n : ℕ). 2 ^ n) (omega arith)))
 
-pub turn_at : {F m d : ℕ} (r c : ℕ) → Turns F m d → r < 2 * 2 ^ F → c ≤ 11 → Turn F r c d
-turn_at r c t few close =
-    record { least = t.least; most = t.most; few = few; near = close; from = t.from; below = t.below }
-
 -- the remainder of a turn fits a significand again
 pub turned_lt : {F m d : ℕ} (r c t : ℕ) → Turns F m d → t ≡ r * 2 ^ c % d → t < 2 * 2 ^ F
 turned_lt {F} {m} {d} r c t w e = omega (arith, mod-lt (r * 2 ^ c) {m = d} (omega (arith, w.from, pow_pos F)), w.below)

@@ -18,8 +18,7 @@ use Rattle.float_format.proofs.Units.{lt_or_ge, magnitude_mono, magnitude_mono_l
 use Rattle.float_format.proofs.Patterns.{nan_is, infinite_is}
 use Rattle.float_format.proofs.Parts.{parts_half_away}
 use Rattle.float_format.proofs.Whole.{large, half_at_lem, power_up}
-use Rattle.float_format.specs.Width.{Finite}
-use Rattle.rounding.specs.Shape.{Reaches63}
+use Rattle.float_format.specs.Width.{InWord, Finite, Wide}
 use Rattle.float_format.proofs.Sizes.{Sizes, sizes, rest_below, rest_from, rest_infinite, rest_nan, plus, minus}
 
 -- ---- below 2^63
@@ -145,7 +144,7 @@ below_answer f x n en h l = fits_answer f x n en h (pick (negative f x))
 
 -- ---- from 2^63 on
 
-module _ (f : Format) (x e : ℕ) (w : Reaches63 f) (p : x < 2 * sign_bit f) (ee : e ≡ exponent_field f x) where
+module _ (f : Format) (x e : ℕ) (w : InWord f) (p : x < 2 * sign_bit f) (ee : e ≡ exponent_field f x) where
   top_is : e ≡ top_field f → exponent_field f x ≡ top_field f
   top_is h = sym ee ∙ h
 
@@ -193,11 +192,11 @@ module _ (f : Format) (x e : ℕ) (w : Reaches63 f) (p : x < 2 * sign_bit f) (ee
     pub positive_answer : x < sign_bit f → Answers f x 3 (pos 0)
     positive_answer l =
         out_answer f x (whole_part f HalfAway x) refl finite
-        (ap (λ (s : Bool). fits64 s (whole_part f HalfAway x)) (plus f x p l).0 ∙ le-ltb (whole_part f HalfAway x) (2 ^ 63) (at_least (sizes f w.word)))
+        (ap (λ (s : Bool). fits64 s (whole_part f HalfAway x)) (plus f x p l).0 ∙ le-ltb (whole_part f HalfAway x) (2 ^ 63) (at_least (sizes f w)))
 
     module _ (m : sign_bit f ≤ x) where
       pub least_answer : unsigned f x ≡ (bias f + 63) * 2 ^ f.fraction → Answers f x 0 (neg_ℤ (pos (2 ^ 63)))
-      least_answer e = go (sizes f w.word)
+      least_answer e = go (sizes f w)
         where
           of_sign : negative f x ≡ true → Answers f x 0 (with_sign (negative f x) (2 ^ 63)) → Answers f x 0 (neg_ℤ (pos (2 ^ 63)))
           of_sign s a = record { refusal = a.refusal; value = ap (λ (b : Bool). with_sign b (2 ^ 63)) (sym s) ∙ a.value }
@@ -210,7 +209,7 @@ module _ (f : Format) (x e : ℕ) (w : Reaches63 f) (p : x < 2 * sign_bit f) (ee
               of_sign s (fits_answer f x (2 ^ 63) is finite (ap (λ (b : Bool). fits64 b (2 ^ 63)) s))
 
       pub beyond_answer : (unsigned f x ≡ (bias f + 63) * 2 ^ f.fraction → ⊥) → Answers f x 3 (pos 0)
-      beyond_answer ne = go (sizes f w.word)
+      beyond_answer ne = go (sizes f w)
         where
           go : Sizes f → Answers f x 3 (pos 0)
           go z =
@@ -236,8 +235,8 @@ module _ (f : Format) (x e : ℕ) (w : Reaches63 f) (p : x < 2 * sign_bit f) (ee
           same m e = omega (arith, (minus f x p m).1)
 
 -- the limit is below infinity
-pub limit_lt : (f : Format) → Reaches63 f → bias f * 2 ^ f.fraction + 63 * 2 ^ f.fraction < 2 ^ 63
-limit_lt f w = go (sizes f w.word)
+pub limit_lt : (f : Format) → InWord f → Wide f → bias f * 2 ^ f.fraction + 63 * 2 ^ f.fraction < 2 ^ 63
+limit_lt f w r = go (sizes f w)
   where
     go : Sizes f → bias f * 2 ^ f.fraction + 63 * 2 ^ f.fraction < 2 ^ 63
-    go z = omega (arith, mul-lt-mul_of_pos_right w.reach (pow_pos f.fraction), z.room.top, z.sign_le, pow_pos f.fraction)
+    go z = omega (arith, mul-lt-mul_of_pos_right r.past_words (pow_pos f.fraction), z.room.top, z.sign_le, pow_pos f.fraction)

@@ -1,16 +1,10 @@
--- What the pieces of a rounding cite: the range of lround, and what is asked of an answer by the exponent field e. Definitions only;
+-- What the pieces of a rounding cite: what is asked of an answer by the exponent field e. Definitions only;
 -- assumes nothing.
 use Rattle.std.specs.Prelude.{◌≡◌, cond, ℕ, ◌+◌, ◌-◌, ◌*◌, ◌%◌, ◌^◌, ◌≤◌, ◌<◌, ltb}
-use Rattle.float_format.specs.Format.{Format, top_field}
+use Rattle.float_format.specs.Format.{Format}
 use Rattle.float_format.specs.Number.{bias}
-use Rattle.float_format.specs.Width.{InWord}
 use Rattle.float_format.specs.Rounding.{integral}
 use Rattle.float_format.specs.declared.Direction.{Direction}
-
--- one whose exponent reaches past 63 binary digits, as lround's range does
-pub record Reaches63 (f : Format) : Type 0 where
-  pub word : InWord f
-  pub reach : bias f + 63 < top_field f
 
 -- an answer that is right where the magnitude is 1 or more, and one that is right below
 abbrev pub FromOne : Format → Direction → ℕ → ℕ → ℕ → Type 0

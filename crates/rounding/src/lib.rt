@@ -1,69 +1,88 @@
-// Rounding of patterns to whole numbers: floor, ceil, trunc, round, nearbyint, lround, at each width.
+// Rounding of patterns to whole numbers: floor, ceil, trunc, round, nearbyint, lround, of every format.
 //
-// The work is done once, with the width open: `fraction` and `exponent` are a format's field sizes, which each width's module hands
-// over as numbers, so that the compiler folds them. A rounding has one branch, for what is not finite. For the rest it works out two
-// answers, one that is right from one on and one that is right below, and picks by the exponent field e: that costs less than a
-// branch that is taken now and then.
+// In each of the five roundings, special cases are: zeros and infinities unchanged, NaN quieted. A zero result has x's sign. Only lround
+// refuses.
+//
+// The work is done once, with the width open: the sizes are a `Pattern`'s, so that the compiler folds them. A rounding has one branch,
+// for what is not finite. For the rest it works out two answers, one that is right from one on and one that is right below, and picks by
+// the exponent field e: that costs less than a branch that is taken now and then.
 #![tactic(auto)]
 
 ghost use Rattle.std.specs.Prelude.{◌≡◌, ◌+◌, ◌-◌, ◌*◌, ◌/◌, ◌%◌, ◌^◌, ◌<◌, ◌≤◌};
-ghost use Rattle.float_format.specs.Format.{sign_bit, top_field, exponent_field};
+ghost use Rattle.float_format.specs.Format.{binary32, sign_bit, top_field, exponent_field};
 ghost use Rattle.float_format.specs.Number.{bias};
 ghost use Rattle.float_format.specs.Rounding.{whole_part, integral, with_sign, lround_refusal, lround_value};
+ghost use Rattle.float_format.specs.declared.Direction.{Direction};
 ghost use Rattle.float_format.specs.declared.Direction.TheVariants.{Down, Up, TowardZero, HalfAway, HalfEven};
 ghost use Rattle.rounding.specs.Answer.{refusal_of, value_of};
-ghost use Rattle.float_format.specs.Width.{format, InWord, Finite};
-ghost use Rattle.rounding.specs.Shape.{Reaches63, FromOne, BelowOne, fraction_shift, Mask};
+ghost use Rattle.float_format.specs.Width.{Finite};
+ghost use Rattle.rounding.specs.Shape.{FromOne, BelowOne, fraction_shift, Mask};
 
-use float_format::Direction;
 use float_format::width::{
-    bias_of, field, not_finite, one, power, sign_bit, signed_zero, top_field,
+    bias_of, field, not_finite, one, power, sign_bit, signed_zero, top_field, unit,
 };
+use float_format::{Pattern, Refusal, Wide};
 
-pub mod binary16;
-pub mod binary32;
-pub mod binary64;
+// ---- the roundings
 
-// What lround answers: a whole number, or refusal 1 or 3.
-#[derive(Clone, Copy)]
-pub enum Integer {
-    Whole(i64),
-    NotANumber,
-    OutOfRange,
+// The greatest integer not above x.
+pub fn floor<P: Pattern>(x: P) -> P
+    ensures { P.bits result ≡ integral P.format Down (P.bits x) }
+{
+    P::from_word(rounded::<P, Downward>(x.to_word()))
 }
 
-impl Integer {
-    // The number of the refusal, 0 where there is none.
-    pub fn refusal(self) -> u64
-        ensures { result ≡ refusal_of self }
-    {
-        match self {
-            Integer::Whole(_) => 0,
-            Integer::NotANumber => 1,
-            Integer::OutOfRange => 3,
-        }
-    }
+// The least integer not below x.
+pub fn ceil<P: Pattern>(x: P) -> P
+    ensures { P.bits result ≡ integral P.format Up (P.bits x) }
+{
+    P::from_word(rounded::<P, Upward>(x.to_word()))
+}
 
-    // The number returned, 0 where it is refused.
-    pub fn value(self) -> i64
-        ensures { result ≡ value_of self }
-    {
-        match self {
-            Integer::Whole(z) => z,
-            Integer::NotANumber => 0,
-            Integer::OutOfRange => 0,
-        }
+// The nearest integer not larger in magnitude than x.
+pub fn trunc<P: Pattern>(x: P) -> P
+    ensures { P.bits result ≡ integral P.format TowardZero (P.bits x) }
+{
+    P::from_word(rounded::<P, Inward>(x.to_word()))
+}
+
+// The integer nearest to x, halves away from zero.
+pub fn round<P: Nearest>(x: P) -> P
+    ensures { P.bits result ≡ integral P.format HalfAway (P.bits x) }
+{
+    x.nearest()
+}
+
+// The integer nearest to x, halves to even.
+pub fn nearbyint<P: Pattern>(x: P) -> P
+    ensures { P.bits result ≡ integral P.format HalfEven (P.bits x) }
+{
+    P::from_word(rounded::<P, HalvesToEven>(x.to_word()))
+}
+
+// round(x) as a signed number of 64 bits.
+//
+// Refuses 1 where x is NaN, and 3 where x is infinite or round(x) lies outside -2^63 to 2^63 - 1.
+pub fn lround<P: Wide>(x: P) -> Result<i64, Refusal>
+    ensures { (refusal_of result ≡ lround_refusal P.format (P.bits x)) × (value_of result ≡ lround_value P.format (P.bits x)) }
+{
+    let word = x.to_word();
+    let e = field::<P>(word);
+    if e < bias_of::<P>() + 63 {
+        let n = whole_below::<P>(word, e);
+        let negative = word >= sign_bit::<P>();
+        return Ok(with_sign(negative, n));
     }
+    integer_large::<P>(word, e)
 }
 
 // ---- a pattern's parts
 
 // The weight of the lowest bit that stands for a whole number in a pattern with the exponent field e.
-fn unit_at(fraction: u64, exponent: u64, e: u64) -> u64
-    requires { InWord (format fraction exponent) }
-    ensures { result ≡ 2 ^ fraction_shift (format fraction exponent) e }
+fn unit_at<P: Pattern>(e: u64) -> u64
+    ensures { result ≡ 2 ^ fraction_shift P.format e }
 {
-    let whole = bias_of(fraction, exponent) + fraction;
+    let whole = bias_of::<P>() + P::fraction_bits();
     if e < whole {
         power((whole - e) % 64)
     } else {
@@ -79,83 +98,124 @@ fn cut(y: u64, unit: u64) -> u64
     y - y % unit
 }
 
-// ---- floor
+// ---- every direction
 
-// A negative number goes on to the next whole one where it has any fraction: all of the unit but one is added before the cut.
-fn floor_from_one(fraction: u64, exponent: u64, x: u64, e: u64) -> u64
-    requires { Finite (format fraction exponent) x e }
-    ensures { FromOne (format fraction exponent) Down x e result }
-{
-    let unit = unit_at(fraction, exponent, e);
-    let least = sign_bit(fraction, exponent) + one(fraction, exponent);
-    let add = if x >= least { unit - 1 } else { 0 };
-    cut(x + add, unit)
+// How one direction rounds a finite pattern x with the exponent field e.
+trait Rounding {
+    ghost direction: { Direction };
+
+    // The answer from one on.
+    fn from_one<P: Pattern>(x: u64, e: u64) -> u64
+        requires { Finite P.format x e }
+        ensures { FromOne P.format direction x e result };
+
+    // The answer below one.
+    fn below_one<P: Pattern>(x: u64, e: u64) -> u64
+        requires { Finite P.format x e }
+        ensures { BelowOne P.format direction x e result };
 }
 
-fn floor_below_one(fraction: u64, exponent: u64, x: u64, e: u64) -> u64
-    requires { Finite (format fraction exponent) x e }
-    ensures { BelowOne (format fraction exponent) Down x e result }
+// x rounded to a whole number.
+fn rounded<P: Pattern, R: Rounding>(x: u64) -> u64
+    requires { x < 2 * sign_bit P.format }
+    ensures { (result ≡ integral P.format R.direction x) × (result < 2 * sign_bit P.format) }
 {
-    let sign = sign_bit(fraction, exponent);
-    let minus_one = sign + one(fraction, exponent);
-    let zero = signed_zero(fraction, exponent, x);
-    if x > sign { minus_one } else { zero }
+    let e = field::<P>(x);
+    if e == top_field::<P>() {
+        return not_finite::<P>(x);
+    }
+    let whole = R::from_one::<P>(x, e);
+    let small = R::below_one::<P>(x, e);
+    if e < bias_of::<P>() { small } else { whole }
+}
+
+// ---- floor
+
+struct Downward;
+
+impl Rounding for Downward {
+    ghost direction = { Down };
+
+    // A negative number goes on to the next whole one where it has any fraction: all of the unit but one is added before the cut.
+    fn from_one<P: Pattern>(x: u64, e: u64) -> u64 {
+        let unit = unit_at::<P>(e);
+        let least = sign_bit::<P>() + one::<P>();
+        let add = if x >= least { unit - 1 } else { 0 };
+        cut(x + add, unit)
+    }
+
+    fn below_one<P: Pattern>(x: u64, e: u64) -> u64 {
+        let sign = sign_bit::<P>();
+        let minus_one = sign + one::<P>();
+        let zero = signed_zero::<P>(x);
+        if x > sign { minus_one } else { zero }
+    }
 }
 
 // ---- ceil
 
-fn ceil_from_one(fraction: u64, exponent: u64, x: u64, e: u64) -> u64
-    requires { Finite (format fraction exponent) x e }
-    ensures { FromOne (format fraction exponent) Up x e result }
-{
-    let unit = unit_at(fraction, exponent, e);
-    let add = if x < sign_bit(fraction, exponent) {
-        unit - 1
-    } else {
-        0
-    };
-    cut(x + add, unit)
-}
+struct Upward;
 
-fn ceil_below_one(fraction: u64, exponent: u64, x: u64, e: u64) -> u64
-    requires { Finite (format fraction exponent) x e }
-    ensures { BelowOne (format fraction exponent) Up x e result }
-{
-    let sign = sign_bit(fraction, exponent);
-    let one = one(fraction, exponent);
-    if x >= sign {
-        return sign;
+impl Rounding for Upward {
+    ghost direction = { Up };
+
+    fn from_one<P: Pattern>(x: u64, e: u64) -> u64 {
+        let unit = unit_at::<P>(e);
+        let add = if x < sign_bit::<P>() { unit - 1 } else { 0 };
+        cut(x + add, unit)
     }
-    if x == 0 { 0 } else { one }
+
+    fn below_one<P: Pattern>(x: u64, e: u64) -> u64 {
+        let sign = sign_bit::<P>();
+        let one = one::<P>();
+        if x >= sign {
+            return sign;
+        }
+        if x == 0 { 0 } else { one }
+    }
 }
 
 // ---- trunc
 
-fn trunc_from_one(fraction: u64, exponent: u64, x: u64, e: u64) -> u64
-    requires { Finite (format fraction exponent) x e }
-    ensures { FromOne (format fraction exponent) TowardZero x e result }
-{
-    cut(x, unit_at(fraction, exponent, e))
-}
+struct Inward;
 
-fn trunc_below_one(fraction: u64, exponent: u64, x: u64, e: u64) -> u64
-    requires { Finite (format fraction exponent) x e }
-    ensures { BelowOne (format fraction exponent) TowardZero x e result }
-{
-    signed_zero(fraction, exponent, x)
+impl Rounding for Inward {
+    ghost direction = { TowardZero };
+
+    fn from_one<P: Pattern>(x: u64, e: u64) -> u64 {
+        cut(x, unit_at::<P>(e))
+    }
+
+    fn below_one<P: Pattern>(x: u64, e: u64) -> u64 {
+        signed_zero::<P>(x)
+    }
 }
 
 // ---- round
 
+struct HalvesAway;
+
+impl Rounding for HalvesAway {
+    ghost direction = { HalfAway };
+
+    fn from_one<P: Pattern>(x: u64, e: u64) -> u64 {
+        round_finite::<P>(x, e)
+    }
+
+    fn below_one<P: Pattern>(x: u64, e: u64) -> u64 {
+        round_finite::<P>(x, e)
+    }
+}
+
 // What stands below one in a pattern with the exponent field e, as ones: from 0.5 up to one that is one bit more than a fraction has.
 // Below 0.5 it is some other number.
-fn fraction_mask(fraction: u64, exponent: u64, e: u64) -> u64
-    requires { InWord (format fraction exponent) × (e < top_field (format fraction exponent)) }
-    ensures { Mask (format fraction exponent) e result }
+fn fraction_mask<P: Pattern>(e: u64) -> u64
+    requires { e < top_field P.format }
+    ensures { Mask P.format e result }
 {
-    let bias = bias_of(fraction, exponent);
-    let ones = 2 * power(fraction) - 1;
-    if e < bias + fraction {
+    let bias = bias_of::<P>();
+    let ones = 2 * unit::<P>() - 1;
+    if e < bias + P::fraction_bits() {
         ones >> ((e + 65 - bias % 64) % 64)
     } else {
         0
@@ -164,90 +224,93 @@ fn fraction_mask(fraction: u64, exponent: u64, e: u64) -> u64
 
 // Half of the unit is added, and what stands below the unit is cut off: the fraction's bits from one half up to one, all but the sign
 // below. One body for both sides of one: that is faster here than two answers of which one is picked.
-fn round_finite(fraction: u64, exponent: u64, x: u64, e: u64) -> u64
-    requires { Finite (format fraction exponent) x e }
-    ensures { (result ≡ integral (format fraction exponent) HalfAway x) × (result < 2 * sign_bit (format fraction exponent)) }
+fn round_finite<P: Pattern>(x: u64, e: u64) -> u64
+    requires { Finite P.format x e }
+    ensures { (result ≡ integral P.format HalfAway x) × (result < 2 * sign_bit P.format) }
 {
-    let mask = fraction_mask(fraction, exponent, e);
+    let mask = fraction_mask::<P>(e);
     let sum = x + (mask + 1) / 2;
-    let low = mask % power(fraction);
-    let all = sign_bit(fraction, exponent) - 1;
-    let below = if e + 1 < bias_of(fraction, exponent) {
-        all
-    } else {
-        low
-    };
+    let low = mask & (unit::<P>() - 1);
+    let all = sign_bit::<P>() - 1;
+    let below = if e + 1 < bias_of::<P>() { all } else { low };
     sum & !below
+}
+
+// The same steps in words of 32 bits, which was a tenth faster on texture-like numbers. What is cut off is 23 bits from one half up to
+// one, and all but the sign below.
+fn round_single(x: u32, e: u32) -> u32
+    requires { Finite binary32 x e }
+    ensures { result ≡ integral binary32 HalfAway x }
+{
+    let mask = if e < 150 {
+        0x00ff_ffff >> ((e + 2) % 32)
+    } else {
+        0
+    };
+    let moved = x + (mask + 1) / 2;
+    let low = mask % 0x0080_0000;
+    let cut = if e < 126 { 0x7fff_ffff } else { low };
+    moved & !cut
+}
+
+// round of each width, by the steps that are fastest there: see docs/DECISIONS.md.
+pub trait Nearest: Pattern {
+    // The integer nearest to x, halves away from zero.
+    fn nearest(self) -> Self
+        ensures { Self.bits result ≡ integral Self.format HalfAway (Self.bits self) };
+}
+
+impl Nearest for u64 {
+    fn nearest(self) -> u64 {
+        rounded::<u64, HalvesAway>(self)
+    }
+}
+
+impl Nearest for u32 {
+    fn nearest(self) -> u32 {
+        // the pattern without its sign, doubled: below twice infinity's it is finite
+        let doubled = self << 1;
+        if doubled < 0xff00_0000 {
+            return round_single(self, doubled >> 24);
+        }
+        not_finite::<u32>(self as u64) as u32
+    }
+}
+
+impl Nearest for u16 {
+    // What is finite is told by the pattern and not by its field.
+    fn nearest(self) -> u16 {
+        let rest = self % 0x8000;
+        if rest < 0x7c00 {
+            let e = (rest >> 10) as u64;
+            return round_finite::<u16>(self as u64, e) as u16;
+        }
+        not_finite::<u16>(self as u64) as u16
+    }
 }
 
 // ---- nearbyint
 
-// Half a unit is added before the cut, less one where the whole part is even, so that a tie stays there. (unit - 1 + odd) / 2 is that
-// number, and 0 where the unit is 1.
-fn nearbyint_from_one(fraction: u64, exponent: u64, x: u64, e: u64) -> u64
-    requires { Finite (format fraction exponent) x e }
-    ensures { FromOne (format fraction exponent) HalfEven x e result }
-{
-    let unit = unit_at(fraction, exponent, e);
-    let odd = x / unit % 2;
-    cut(x + (unit - 1 + odd) / 2, unit)
-}
+struct HalvesToEven;
 
-// Above one half the answer is one.
-fn nearbyint_below_one(fraction: u64, exponent: u64, x: u64, e: u64) -> u64
-    requires { Finite (format fraction exponent) x e }
-    ensures { BelowOne (format fraction exponent) HalfEven x e result }
-{
-    let zero = signed_zero(fraction, exponent, x);
-    let one = one(fraction, exponent);
-    let half = one - power(fraction);
-    let away = zero + one;
-    if half < x - zero { away } else { zero }
-}
+impl Rounding for HalvesToEven {
+    ghost direction = { HalfEven };
 
-// ---- every direction
-
-fn from_one(direction: Direction, fraction: u64, exponent: u64, x: u64, e: u64) -> u64
-    requires { Finite (format fraction exponent) x e }
-    ensures { FromOne (format fraction exponent) direction x e result }
-{
-    match direction {
-        Direction::Down => floor_from_one(fraction, exponent, x, e),
-        Direction::Up => ceil_from_one(fraction, exponent, x, e),
-        Direction::TowardZero => trunc_from_one(fraction, exponent, x, e),
-        Direction::HalfAway => round_finite(fraction, exponent, x, e),
-        Direction::HalfEven => nearbyint_from_one(fraction, exponent, x, e),
+    // Half a unit is added before the cut, less one where the whole part is even, so that a tie stays there. (unit - 1 + odd) / 2 is that
+    // number, and 0 where the unit is 1.
+    fn from_one<P: Pattern>(x: u64, e: u64) -> u64 {
+        let unit = unit_at::<P>(e);
+        let odd = x / unit % 2;
+        cut(x + (unit - 1 + odd) / 2, unit)
     }
-}
 
-fn below_one(direction: Direction, fraction: u64, exponent: u64, x: u64, e: u64) -> u64
-    requires { Finite (format fraction exponent) x e }
-    ensures { BelowOne (format fraction exponent) direction x e result }
-{
-    match direction {
-        Direction::Down => floor_below_one(fraction, exponent, x, e),
-        Direction::Up => ceil_below_one(fraction, exponent, x, e),
-        Direction::TowardZero => trunc_below_one(fraction, exponent, x, e),
-        Direction::HalfAway => round_finite(fraction, exponent, x, e),
-        Direction::HalfEven => nearbyint_below_one(fraction, exponent, x, e),
-    }
-}
-
-// x rounded to a whole number.
-fn rounded(direction: Direction, fraction: u64, exponent: u64, x: u64) -> u64
-    requires { InWord (format fraction exponent) × (x < 2 * sign_bit (format fraction exponent)) }
-    ensures { (result ≡ integral (format fraction exponent) direction x) × (result < 2 * sign_bit (format fraction exponent)) }
-{
-    let e = field(fraction, exponent, x);
-    if e == top_field(fraction, exponent) {
-        return not_finite(fraction, exponent, x);
-    }
-    let whole = from_one(direction, fraction, exponent, x, e);
-    let small = below_one(direction, fraction, exponent, x, e);
-    if e < bias_of(fraction, exponent) {
-        small
-    } else {
-        whole
+    // Above one half the answer is one.
+    fn below_one<P: Pattern>(x: u64, e: u64) -> u64 {
+        let zero = signed_zero::<P>(x);
+        let one = one::<P>();
+        let half = one - unit::<P>();
+        let away = zero + one;
+        if half < x - zero { away } else { zero }
     }
 }
 
@@ -255,13 +318,13 @@ fn rounded(direction: Direction, fraction: u64, exponent: u64, x: u64) -> u64
 
 // round(x), without its sign, of a number below 2^63. The significand, moved to the top of a word and back, leaves twice the
 // magnitude, cut to a whole number; half of that, rounded up, is the answer.
-fn whole_below(fraction: u64, exponent: u64, x: u64, e: u64) -> u64
-    requires { Finite (format fraction exponent) x e × (e < bias (format fraction exponent) + 63) }
-    ensures { (result ≡ whole_part (format fraction exponent) HalfAway x) × (result < 2 ^ 63) }
+fn whole_below<P: Pattern>(x: u64, e: u64) -> u64
+    requires { Finite P.format x e × (e < bias P.format + 63) }
+    ensures { (result ≡ whole_part P.format HalfAway x) × (result < 2 ^ 63) }
 {
-    let hidden = power(fraction);
-    let significand = (hidden + x % hidden) << (63 - fraction);
-    let bias = bias_of(fraction, exponent);
+    let hidden = unit::<P>();
+    let significand = (hidden + x % hidden) << (63 - P::fraction_bits());
+    let bias = bias_of::<P>();
     let kept = if e + 1 < bias { 0 } else { significand };
     let twice = kept >> ((bias + 62 - e) % 64);
     (twice + 1) / 2
@@ -278,32 +341,19 @@ fn with_sign(negative: bool, n: u64) -> i64
 }
 
 // From 2^63 on: only -2^63 itself is a number of 64 bits.
-fn integer_large(fraction: u64, exponent: u64, x: u64, e: u64) -> Integer
-    requires { Reaches63 (format fraction exponent) × (x < 2 * sign_bit (format fraction exponent)) × (e ≡ exponent_field (format fraction exponent) x) × (bias (format fraction exponent) + 63 ≤ e) }
-    ensures { (refusal_of result ≡ lround_refusal (format fraction exponent) x) × (value_of result ≡ lround_value (format fraction exponent) x) }
+fn integer_large<P: Wide>(x: u64, e: u64) -> Result<i64, Refusal>
+    requires { (x < 2 * sign_bit P.format) × (e ≡ exponent_field P.format x) × (bias P.format + 63 ≤ e) }
+    ensures { (refusal_of result ≡ lround_refusal P.format x) × (value_of result ≡ lround_value P.format x) }
 {
-    if e == top_field(fraction, exponent) {
-        if x % power(fraction) == 0 {
-            return Integer::OutOfRange;
+    if e == top_field::<P>() {
+        if x % unit::<P>() == 0 {
+            return Err(Refusal::OutOfRange);
         }
-        return Integer::NotANumber;
+        return Err(Refusal::NotANumber);
     }
-    let limit = one(fraction, exponent) + 63 * power(fraction);
-    if x == sign_bit(fraction, exponent) + limit {
-        return Integer::Whole(i64::MIN);
+    let limit = one::<P>() + 63 * unit::<P>();
+    if x == sign_bit::<P>() + limit {
+        return Ok(i64::MIN);
     }
-    Integer::OutOfRange
-}
-
-fn lround(fraction: u64, exponent: u64, x: u64) -> Integer
-    requires { Reaches63 (format fraction exponent) × (x < 2 * sign_bit (format fraction exponent)) }
-    ensures { (refusal_of result ≡ lround_refusal (format fraction exponent) x) × (value_of result ≡ lround_value (format fraction exponent) x) }
-{
-    let e = field(fraction, exponent, x);
-    if e < bias_of(fraction, exponent) + 63 {
-        let n = whole_below(fraction, exponent, x, e);
-        let negative = x >= sign_bit(fraction, exponent);
-        return Integer::Whole(with_sign(negative, n));
-    }
-    integer_large(fraction, exponent, x, e)
+    Err(Refusal::OutOfRange)
 }

@@ -7,18 +7,20 @@ use Prim.Native.Nat.{ℕ, ◌*◌, ◌/◌, ◌≤◌, ◌<◌}
 use native.Mathlib.Omega.{arith}
 use lib.ListN.{length, take}
 use borrow.Author.Tests.{lt-ltb, le-ltb}
-use Rattle.recipe.specs.declared.Reading.{Reading}
+use Rattle.recipe.specs.declared.Refusal.{Refusal}
 use Rattle.recipe.specs.declared.Step.{Step}
-use Rattle.recipe.specs.declared.StepNumber.{StepNumber}
+use Rattle.recipe.specs.Fault as fault
 use Rattle.recipe.specs.Text.{short, most_steps, inputs_in, read_text}
 use Rattle.recipe.specs.Packed.{bad_words, steps_in, steps_of}
 use Rattle.recipe.specs.Answer.{Says, Formed, Holds}
 use Rattle.recipe.proofs.Packed.{steps_length, holds_words}
-use Rattle.recipe.proofs.Laws.{formed_inputs, answer_steps, answer_count, answer_holds, answer_refused}
-use Rattle.frame.specs.declared.Inputs.{Inputs}
-use Rattle.frame.specs.declared.Ranges.{Ranges}
-use Rattle.frame.specs.declared.Ranges.TheVariants.{Within, Outside}
-use Rattle.frame.specs.Stages.{Same, Read, ranged_by}
+use Rattle.recipe.proofs.Laws.{formed_inputs}
+use Rattle.reader.specs.Checks.{reading_of}
+use Rattle.reader.proofs.Laws.{read_steps, read_count, read_holds, read_refused}
+use Rattle.std.specs.Prelude.{Ok, Err}
+use Rattle.calls.specs.declared.Refused.{Refused}
+use Rattle.calls.specs.Numbers.{number_of, place_of}
+use Rattle.frame.specs.Stages.{Same, Read}
 use Rattle.semantics.specs.Frame.{Frame, words, words_from, ranged}
 use Rattle.semantics.specs.Frame as frame
 use Rattle.semantics.specs.Run.{Run, refused, run_from, call_on, run_steps, run_of}
@@ -29,18 +31,18 @@ use Rattle.semantics.proofs.Calls as law
 
 -- ---- the words read
 
-read_malformed : (x : Frame) (r : Inputs) → Read x r → r.malformed ≡ true → x ≡ frame.refused 31 0
-read_malformed (words ws) r h e = let z : ◌≡◌ {A = ℕ} 0 1 = cc h.0 in absurd (omega arith)
-read_malformed (frame.refused number place) r h e = cc (h.1, h.2)
+read_malformed : (x : Frame) (why : Refused) → Read x (Err why) → x ≡ frame.refused (number_of why) (place_of why)
+read_malformed (words ws) why h = absurd h
+read_malformed (frame.refused number place) why h = cc (h.0, h.1)
 
-record Held (x : Frame) (r : Inputs) : Type 0 where
+record Held (x : Frame) (inputs : List ℕ) : Type 0 where
   pub list : List ℕ
   pub is : x ≡ words list
-  pub same : Same r.words list
+  pub same : Same inputs list
 
-read_held : (x : Frame) (r : Inputs) → Read x r → r.malformed ≡ false → Held x r
-read_held (words ws) r h e = record { list = ws; is = refl; same = h.1 }
-read_held (frame.refused number place) r h e = let z : ◌≡◌ {A = ℕ} 0 1 = cc h.0 in absurd (omega arith)
+read_held : (x : Frame) (inputs : List ℕ) → Read x (Ok inputs) → Held x inputs
+read_held (words ws) inputs h = record { list = ws; is = refl; same = h }
+read_held (frame.refused number place) inputs h = absurd h
 
 -- ---- the run of words
 
@@ -77,9 +79,9 @@ holds_run l w s room h =
 -- ---- the stages
 
 -- the run's fold that the call comes down to, on a list of the words
-pub record Reached (run : Run) (w : List ℕ) (n : ℕ) (inputs : Inputs) : Type 0 where
+pub record Reached (run : Run) (w : List ℕ) (n : ℕ) (inputs : List ℕ) : Type 0 where
   pub list : List ℕ
-  pub same : Same inputs.words list
+  pub same : Same inputs list
   pub is : run ≡ carried_from (steps_in w n) 0 0 list []
 
 module _ (w s : List ℕ) (room : ℕ) (b : bad_words (length w) ≡ false) (n : ℕ) (en : n ≡ length w / 3) (m : ℕ) (em : m ≡ inputs_in (steps_in w n)) where
@@ -103,52 +105,48 @@ module _ (w s : List ℕ) (room : ℕ) (b : bad_words (length w) ≡ false) (n :
       pub run_length : (length s ≡ m * 16 → ⊥) → run_words w s room ≡ refused 30 0
       run_length k = as_steps ∙ law.call_length (λ ws. carried_from (steps_in w n) 0 0 ws []) (steps_in w n) s room roomy (λ e. k (e ∙ rw em))
 
-      module _ (k : length s ≡ m * 16) (inputs : Inputs) (i : Read (words_from s m 0 []) inputs) where
+      module _ (k : length s ≡ m * 16) where
         sized : length s ≡ inputs_in (steps_in w n) * 16
         sized = k ∙ rw em
 
         -- refusal 31
-        pub run_malformed : inputs.malformed ≡ true → run_words w s room ≡ refused 31 0
-        run_malformed y =
+        pub run_malformed : (why : Refused) → Read (words_from s m 0 []) (Err why) → run_words w s room ≡ refused (number_of why) (place_of why)
+        run_malformed why i =
             as_steps
-            ∙ law.call_malformed (λ ws. carried_from (steps_in w n) 0 0 ws []) (steps_in w n) s room roomy sized (rw (sym em) (read_malformed (words_from s m 0 []) inputs i y))
+            ∙ law.call_malformed (λ ws. carried_from (steps_in w n) 0 0 ws []) (steps_in w n) s room roomy sized (number_of why) (place_of why) (rw (sym em) (read_malformed (words_from s m 0 []) why i))
 
-        module _ (y : inputs.malformed ≡ false) (v : Ranges) (ev : (ws : List ℕ) → Same inputs.words ws → ranged (steps_in w n) 0 0 ws ≡ ranged_by v ws) where
+        module _ (inputs : List ℕ) (i : Read (words_from s m 0 []) (Ok inputs)) where
           held : Held (words_from s m 0 []) inputs
-          held = read_held (words_from s m 0 []) inputs i y
+          held = read_held (words_from s m 0 []) inputs i
 
           there : words_from s (inputs_in (steps_in w n)) 0 [] ≡ words held.list
           there = rw (sym em) held.is
 
-          found : ranged (steps_in w n) 0 0 held.list ≡ ranged_by v held.list
-          found = ev held.list held.same
-
           -- refusal 32
-          pub run_outside : (p : StepNumber) → v ≡ Outside p → run_words w s room ≡ refused 32 p.0
-          run_outside p e =
+          pub run_outside : (why : Refused) → ((ws : List ℕ) → Same inputs ws → ranged (steps_in w n) 0 0 ws ≡ frame.refused (number_of why) (place_of why)) → run_words w s room ≡ refused (number_of why) (place_of why)
+          run_outside why f =
               as_steps
-              ∙ law.call_outside (λ ws. carried_from (steps_in w n) 0 0 ws []) (steps_in w n) s room roomy sized held.list there p.0 (found ∙ ap (λ (x : Ranges). ranged_by x held.list) e)
+              ∙ law.call_outside (λ ws. carried_from (steps_in w n) 0 0 ws []) (steps_in w n) s room roomy sized held.list there (number_of why) (place_of why) (f held.list held.same)
 
           -- none of these
-          pub run_reached : v ≡ Within → Reached (run_words w s room) w n inputs
-          run_reached e =
+          pub run_reached : ((ws : List ℕ) → Same inputs ws → ranged (steps_in w n) 0 0 ws ≡ words ws) → Reached (run_words w s room) w n inputs
+          run_reached f =
               record {
                 list = held.list;
                 same = held.same;
                 is = as_steps
-                    ∙ law.call_reached (λ ws. carried_from (steps_in w n) 0 0 ws []) (steps_in w n) s room roomy sized held.list there (found ∙ ap (λ (x : Ranges). ranged_by x held.list) e);
+                    ∙ law.call_reached (λ ws. carried_from (steps_in w n) 0 0 ws []) (steps_in w n) s room roomy sized held.list there (f held.list held.same);
               }
 
 -- ---- a text
 
-module _ (t s : List ℕ) (room : ℕ) (r : Reading) (w : List ℕ) (g : Says (read_text short t) r w) where
+module _ (t s : List ℕ) (room : ℕ) (w : List ℕ) where
   -- the reader's refusal
-  pub text_refused : (r.refusal ≡ 0 → ⊥) → run_of t s room ≡ refused r.refusal r.place.0
-  text_refused h = law.run_refused t s room r.refusal r.place.0 (answer_refused t r w g h)
+  pub text_refused : (r : Refusal) → Says (read_text short t) (reading_of (Err r)) w → run_of t s room ≡ refused (fault.number_of r.fault) r.place.0
+  text_refused r g = law.run_refused t s room (fault.number_of r.fault) r.place.0 (read_refused t w r g)
 
   -- else the words read are run, and these alone
-  pub text_run : r.refusal ≡ 0 → length w ≡ 3 * most_steps → run_words (take (3 * r.count) w) s room ≡ run_of t s room
-  text_run z e =
-      let n = answer_count t r w g z in
-      holds_run (steps_in w r.count) (take (3 * r.count) w) s room (answer_holds t r w g z (omega (arith, n.1)))
-      ∙ sym (law.run_read t s room (steps_in w r.count) (answer_steps t r w g z))
+  pub text_run : (n : ℕ) → Says (read_text short t) (reading_of (Ok n)) w → length w ≡ 3 * most_steps → run_words (take (3 * n) w) s room ≡ run_of t s room
+  text_run n g e =
+      let few = read_count t w n g in
+      holds_run (steps_in w n) (take (3 * n) w) s room (read_holds t w n g (omega (arith, few.1))) ∙ sym (law.run_read t s room (steps_in w n) (read_steps t w n g))

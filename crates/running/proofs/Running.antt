@@ -1,5 +1,5 @@
 -- The run's loops: the values step by step, and then their words. The invariant `Going` says that the run of the whole, as floats carry it, is
--- the run of the rest after the values so far; no value is a NaN. Assumes nothing.
+-- the run of the rest after the values so far. Assumes nothing.
 use mathlib.Core.Path.{◌≡◌, refl, ap, sym, ◌∙◌}
 use mathlib.Core.Bool.{cond}
 use mathlib.Core.List.{List, [], ◌∷◌, ◌++◌, map, map-append, map-map}
@@ -17,17 +17,17 @@ use Rattle.recipe.specs.Packed.{step_at, steps_in}
 use Rattle.recipe.proofs.Packed.{next_step, none_left}
 use Rattle.values.specs.declared.Value.{Value}
 use Rattle.values.specs.declared.Value.TheVariants.{Whole}
-use Rattle.values.specs.declared.Outcome.{Outcome}
-use Rattle.values.specs.declared.Outcome.TheVariants.{Done, Refused}
+use Rattle.std.specs.Prelude.{Result, Ok, Err}
+use Rattle.values.specs.declared.Refusal.{Refusal}
 use Rattle.semantics.specs.Value.{Datum, word_of, done, step_value}
 use Rattle.semantics.specs.Value as value
-use Rattle.values.specs.Seen.{seen, Real, outcome_of, RealOutcome}
+use Rattle.values.specs.Seen.{seen, number_of, outcome_of}
 use Rattle.semantics.specs.Run.{completed, refused, step_on, on_outcome, last_of, words_of}
 use Rattle.frame.specs.Stages.{Same}
 use Rattle.values.specs.Carried.{carried}
 use Rattle.running.specs.Carried.{carried_from}
 use Rattle.semantics.proofs.Lists.{grow}
-use Rattle.semantics.proofs.Filled.{Filled, filled_start, filled_more, fetch_all, fetch, fetch_last}
+use Rattle.semantics.proofs.Filled.{Filled, filled_start, filled_more, fetch, fetch_last}
 
 -- what the array of values is filled with
 abbrev pub start : Value
@@ -59,7 +59,7 @@ steps_done k j ws l = refl
 pub record Going (w : List ℕ) (n : ℕ) (held : List ℕ) (values : List Value) (next i : ℕ) : Type 0 where
   pub within : i ≤ n
   pub few : next ≤ i
-  pub filled : Filled start Real values i
+  pub filled : Filled start values i
   pub same : (ws : List ℕ) → Same held ws → carried_from (steps_in w n) 0 0 ws [] ≡ carried_from (drop i (steps_in w n)) i next ws (map seen (take i values))
 
 pub going_start : (w : List ℕ) (n : ℕ) (held : List ℕ) → Going w n held (replicate most_steps start) 0 0
@@ -67,46 +67,41 @@ going_start w n held =
     record {
       within = omega arith;
       few = omega arith;
-      filled = filled_start start Real tt;
+      filled = filled_start start;
       same = λ ws q. refl;
     }
 
 module _ (w : List ℕ) (n : ℕ) (held : List ℕ) (values : List Value) (next i : ℕ) (g : Going w n held values next i) where
-  -- each place holds a value with a word of its own
-  pub fetch_real : (f : ℕ) (d : Value) → f < most_steps → Real (get_or values f d)
-  fetch_real f d h = fetch_all start Real values i g.filled f d h
-
   -- the last value
   pub fetch_end : (k : ℕ) (d : Value) → n ≤ most_steps → n ≤ i → k ≡ n - 1 → seen (get_or values k d) ≡ last_of (map seen (take n values))
-  fetch_end k d m h e = let b = g.within in fetch_last start Real values i g.filled seen k n d m (omega arith) e
+  fetch_end k d m h e = let b = g.within in fetch_last start values i g.filled seen k n d m (omega arith) e
 
   module _ (h : i < n) (m : n ≤ most_steps) (t : Step) (et : t ≡ step_at w i) (x : ℕ) (ex : x ≡ get_or held next 0)
-      (f₁ f₂ : ℕ) (z : Value) (e₁ : f₁ ≡ cond (ltb (first t) i) (first t) i) (e₂ : f₂ ≡ cond (ltb (second t) i) (second t) i)
-      (r : Outcome) (er : outcome_of r ≡ carried (step_value t x (seen (get_or values f₁ z)) (seen (get_or values f₂ z)))) where
+      (f₁ f₂ : ℕ) (z y : Value) (e₁ : f₁ ≡ cond (ltb (first t) i) (first t) i) (e₂ : f₂ ≡ cond (ltb (second t) i) (second t) i)
+      (r : Result Value Refusal) (er : outcome_of r ≡ carried (step_value t x (seen (get_or values f₁ z)) (seen (get_or values f₂ y)))) where
     left : drop i (steps_in w n) ≡ t ∷ drop (i + 1) (steps_in w n)
     left = rw et (next_step w n i h)
 
     did : (ws : List ℕ) → Same held ws → carried (step_on t (get_or ws next 0) (map seen (take i values))) ≡ outcome_of r
-    did ws q = rw (sym (q next), sym ex, sym (fetch start Real values i g.filled seen (first t) f₁ z (omega arith) e₁), sym (fetch start Real values i g.filled seen (second t) f₂ z (omega arith) e₂)) (sym er)
+    did ws q = rw (sym (q next), sym ex, sym (fetch start values i g.filled seen (first t) f₁ z (omega arith) e₁), sym (fetch start values i g.filled seen (second t) f₂ y (omega arith) e₂)) (sym er)
 
-    pub going_more : (v : Value) → r ≡ Done v → RealOutcome r → (c : ℕ) → c ≡ cond (is_input (row_of t.opcode)) 1 0 + next → c ≤ next + 1
+    pub going_more : (v : Value) → r ≡ Ok v → (c : ℕ) → c ≡ cond (is_input (row_of t.opcode)) 1 0 + next → c ≤ next + 1
         → Going w n held (set values i v) c (i + 1)
-    going_more v e y c f u =
+    going_more v e c f u =
         let b : i < length values = omega (arith, g.filled.long) in
-        let p : Real v = rw e at y in
         record {
           within = omega arith;
           few = omega (arith, g.few);
-          filled = filled_more start Real values i g.filled v p (omega arith);
+          filled = filled_more start values i g.filled v;
           same = λ ws q.
               g.same ws q
               ∙ rw (left, grow values i v b, map-append, f, add-one)
               (step_good t (drop (suc i) (steps_in w n)) i next ws (map seen (take i values)) (seen v) (did ws q ∙ ap outcome_of e));
         }
 
-    pub going_refused : (number : ℕ) → r ≡ Refused number → (ws : List ℕ) → Same held ws → carried_from (steps_in w n) 0 0 ws [] ≡ refused number i
-    going_refused number e ws q =
-        g.same ws q ∙ rw left (step_bad t (drop (i + 1) (steps_in w n)) i next ws (map seen (take i values)) number (did ws q ∙ ap outcome_of e))
+    pub going_refused : (why : Refusal) → r ≡ Err why → (ws : List ℕ) → Same held ws → carried_from (steps_in w n) 0 0 ws [] ≡ refused (number_of why) i
+    going_refused why e ws q =
+        g.same ws q ∙ rw left (step_bad t (drop (i + 1) (steps_in w n)) i next ws (map seen (take i values)) (number_of why) (did ws q ∙ ap outcome_of e))
 
   pub going_done : n ≤ i → (ws : List ℕ) → Same held ws → carried_from (steps_in w n) 0 0 ws [] ≡ completed (map seen (take n values))
   going_done h ws q =

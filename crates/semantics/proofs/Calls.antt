@@ -74,16 +74,16 @@ module _ (more : List ℕ → Run) (l : List Step) (s : List ℕ) (room : ℕ) w
       worded = framed ∙ ap (λ (x : Frame). on_frame x more) (frame_words l s h)
 
       -- refusal 31
-      pub call_malformed : words_from s (inputs_in l) 0 [] ≡ frame.refused 31 0 → call_on more l s room ≡ refused 31 0
-      call_malformed e = worded ∙ words_refused (words_from s (inputs_in l) 0 []) l more 31 0 e
+      pub call_malformed : (number place : ℕ) → words_from s (inputs_in l) 0 [] ≡ frame.refused number place → call_on more l s room ≡ refused number place
+      call_malformed number place e = worded ∙ words_refused (words_from s (inputs_in l) 0 []) l more number place e
 
       module _ (ws : List ℕ) (e : words_from s (inputs_in l) 0 [] ≡ words ws) where
         ranges : call_on more l s room ≡ on_frame (ranged l 0 0 ws) more
         ranges = worded ∙ words_good (words_from s (inputs_in l) 0 []) l more ws e
 
         -- refusal 32
-        pub call_outside : (p : ℕ) → ranged l 0 0 ws ≡ frame.refused 32 p → call_on more l s room ≡ refused 32 p
-        call_outside p f = ranges ∙ frame_refused (ranged l 0 0 ws) more 32 p f
+        pub call_outside : (number place : ℕ) → ranged l 0 0 ws ≡ frame.refused number place → call_on more l s room ≡ refused number place
+        call_outside number place f = ranges ∙ frame_refused (ranged l 0 0 ws) more number place f
 
         -- none of these
         pub call_reached : ranged l 0 0 ws ≡ words ws → call_on more l s room ≡ more ws

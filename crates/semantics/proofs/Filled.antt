@@ -7,18 +7,17 @@ use Prim.Native.Nat.{ℕ, ◌+◌, ◌-◌, ◌≤◌, ◌<◌}
 use native.Mathlib.Omega.{arith}
 use lib.Dec.{ltb}
 use lib.ListN.{length, take, set, get_or, replicate, length-set, length-map, length-replicate, get_or-replicate, get_or-eq_default, get_or-map}
-use lib.Seq.{get_or-take, get_or-set_same, get_or-set_other, length-take-le}
+use lib.Seq.{get_or-take, get_or-set_other, length-take-le}
 use Rattle.recipe.specs.Text.{most_steps}
 use borrow.Author.Tests.{lt-ltb, le-ltb}
 use Rattle.semantics.proofs.Lists.{lt_or_ge, get_d_any}
 
--- the places from i on still hold the start element, and every place holds what has P
-pub record Filled {A : Type 0} (start : A) (P : A → Type 0) (l : List A) (i : ℕ) : Type 0 where
+-- the places from i on still hold the start element
+pub record Filled {A : Type 0} (start : A) (l : List A) (i : ℕ) : Type 0 where
   pub long : length l ≡ most_steps
   pub rest : (k : ℕ) → i ≤ k → get_or l k start ≡ start
-  pub all : (k : ℕ) → P (get_or l k start)
 
-module _ {A : Type 0} (start : A) (P : A → Type 0) where
+module _ {A : Type 0} (start : A) where
   at_start : (k : ℕ) → get_or (replicate most_steps start) k start ≡ start
   at_start k =
       ⊎_elim
@@ -26,28 +25,16 @@ module _ {A : Type 0} (start : A) (P : A → Type 0) where
       (λ (q : most_steps ≤ k). get_or-eq_default (replicate most_steps start) start {n = k} (rw (length-replicate most_steps start) q))
       (lt_or_ge k most_steps)
 
-  pub filled_start : P start → Filled start P (replicate most_steps start) 0
-  filled_start p = record { long = length-replicate most_steps start; rest = λ k b. at_start k; all = λ k. rw (at_start k) p }
+  pub filled_start : Filled start (replicate most_steps start) 0
+  filled_start = record { long = length-replicate most_steps start; rest = λ k b. at_start k }
 
-  module _ (l : List A) (i : ℕ) (g : Filled start P l i) where
-    pub filled_more : (v : A) → P v → i < most_steps → Filled start P (set l i v) (i + 1)
-    filled_more v x h =
-        let z : i < length l = omega (arith, g.long) in
+  module _ (l : List A) (i : ℕ) (g : Filled start l i) where
+    pub filled_more : (v : A) → Filled start (set l i v) (i + 1)
+    filled_more v =
         record {
           long = simp length-set g.long;
           rest = λ k p. get_or-set_other l i k v start (λ (q : k ≡ i). omega arith) ∙ g.rest k (omega arith);
-          all = λ k. ⊎_elim
-              (λ (p : k < i). rw (get_or-set_other l i k v start (λ (q : k ≡ i). omega arith)) (g.all k))
-              (λ (p : i ≤ k). ⊎_elim
-              (λ (o : i < k). rw (get_or-set_other l i k v start (λ (q : k ≡ i). omega arith)) (g.all k))
-              (λ (o : k ≤ i). let q : k ≡ i = omega arith in rw (q, get_or-set_same l i v start z) x)
-              (lt_or_ge i k))
-              (lt_or_ge k i);
         }
-
-    -- each place has P
-    pub fetch_all : (f : ℕ) (d : A) → f < most_steps → P (get_or l f d)
-    fetch_all f d h = let w = g.long in rw (get_d_any l f d start (omega arith)) (g.all f)
 
     -- what the places stand for, by `seen`
     module _ {D : Type 0} (seen : A → D) where

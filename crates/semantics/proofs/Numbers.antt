@@ -13,8 +13,7 @@ use Rattle.float_format.specs.Rounding.{lround_refusal}
 use Rattle.remainder.specs.Remainder.{fmod_refusal}
 use Rattle.scaling.specs.Scaling.{ldexp_refusal}
 use Rattle.hexadecimal.specs.Hex.{field_of}
-use Rattle.hexadecimal.specs.declared.Field.{Field}
-use Rattle.hexadecimal.specs.declared.Field.TheVariants.{Value, Malformed as Bad}
+use Rattle.std.specs.Prelude.{Option, Some, None}
 use Rattle.recipe.specs.declared.Step.{Step}
 use Rattle.recipe.specs.Table.{row_of, is_input}
 use Rattle.recipe.specs.Text.{Text, steps, short, inputs_in, read_text}
@@ -80,10 +79,10 @@ data FrameNumbered : Frame → Type 0 where
   read : (ws : List ℕ) → FrameNumbered (frame.words ws)
   unread : (number place : ℕ) → 30 ≤ number → number ≤ 32 → FrameNumbered (frame.refused number place)
 
-field_numbered : (x : Field) (more : ℕ → Frame) → ((w : ℕ) → FrameNumbered (more w)) → FrameNumbered (on_field x more)
+field_numbered : (x : Option ℕ) (more : ℕ → Frame) → ((w : ℕ) → FrameNumbered (more w)) → FrameNumbered (on_field x more)
 unfolding on_field
-field_numbered (Value w) more h = h w
-field_numbered Bad more h = unread 31 0 (omega arith) (omega arith)
+field_numbered (Some w) more h = h w
+field_numbered None more h = unread 31 0 (omega arith) (omega arith)
 
 words_numbered : (s : List ℕ) (n k : ℕ) (l : List ℕ) → FrameNumbered (words_from s n k l)
 unfolding words_from

@@ -1,10 +1,8 @@
 -- A frame read for a recipe's inputs: refusals 30 and 31, and 32 by input (document 01, "Turning text down"). Definitions only; assumes
 -- nothing.
-use Rattle.std.specs.Prelude.{Bool, true, false, ◌||◌, cond, List, [], ◌∷◌, ◌++◌, ℕ, zero, suc, ◌+◌, ◌*◌, eqb, length, get_or}
+use Rattle.std.specs.Prelude.{Bool, true, false, ◌||◌, cond, List, [], ◌∷◌, ◌++◌, ℕ, zero, suc, ◌+◌, ◌*◌, eqb, length, get_or, Option, Some, None}
 use Rattle.float_format.specs.Format.{binary64, is_nan}
 use Rattle.hexadecimal.specs.Hex.{field_of}
-use Rattle.hexadecimal.specs.declared.Field.{Field}
-use Rattle.hexadecimal.specs.declared.Field.TheVariants.{Value, Malformed as Bad}
 use Rattle.recipe.specs.declared.Kind.TheVariants.{Double, Whole}
 use Rattle.recipe.specs.declared.Row.{Row}
 use Rattle.recipe.specs.declared.Row.TheVariants.{Unknown, Input, Constant, Unary, Binary}
@@ -19,9 +17,9 @@ pub data Frame : Type 0 where
 
 -- ---- the digits: 16 an input
 
-unfoldable pub on_field : Field → (ℕ → Frame) → Frame
-on_field (Value w) more = more w
-on_field Bad more = refused 31 0
+unfoldable pub on_field : Option ℕ → (ℕ → Frame) → Frame
+on_field (Some w) more = more w
+on_field None more = refused 31 0
 
 -- n more words, from word k, after the words l
 unfoldable pub words_from : List ℕ → ℕ → ℕ → List ℕ → Frame

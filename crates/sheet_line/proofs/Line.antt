@@ -40,7 +40,7 @@ kind_small : (r : Range) → kind_number (kind_of r) < 256
 kind_small (doubles l h) = omega arith
 kind_small (wholes l h) = omega arith
 
-pub mark_small : (m : Bool) → mark_number m < 256
+mark_small : (m : Bool) → mark_number m < 256
 mark_small true = omega arith
 mark_small false = omega arith
 

@@ -19,22 +19,19 @@ use Rattle.semantics.proofs.Marks.{marks_more}
 use Rattle.ranges.specs.declared.Range.{Range}
 use Rattle.ranges.specs.Seen.{seen_range}
 
-abbrev Any : Bool → Type 0
-Any m = Unit {0}
-
 -- of the steps in the words w, i have their marks, the first i of `marks`
 pub record Marked (w : List ℕ) (ranges : List Range) (marks : List Bool) (i : ℕ) : Type 0 where
-  pub filled : Filled no_mark Any marks i
+  pub filled : Filled no_mark marks i
   pub same : marks_of (steps_in w i) (map seen_range (take i ranges)) ≡ take i marks
 
 pub marked_start : (w : List ℕ) (ranges : List Range) → Marked w ranges (replicate most_steps no_mark) 0
 unfolding marks_from steps_in
-marked_start w ranges = record { filled = filled_start no_mark Any tt; same = refl }
+marked_start w ranges = record { filled = filled_start no_mark; same = refl }
 
 module _ (w : List ℕ) (ranges : List Range) (marks : List Bool) (i : ℕ) (g : Marked w ranges marks i) where
   -- the operand's mark that the loop fetched is that of the rule
   fetched : (k f : ℕ) (z : Bool) → i < most_steps → f ≡ cond (ltb k i) k i → get_or marks f z ≡ get_or (take i marks) k no_mark
-  fetched k f z h e = fetch no_mark Any marks i g.filled (λ (m : Bool). m) k f z h e ∙ ap (λ (l : List Bool). get_or l k no_mark) (map-id (take i marks))
+  fetched k f z h e = fetch no_mark marks i g.filled (λ (m : Bool). m) k f z h e ∙ ap (λ (l : List Bool). get_or l k no_mark) (map-id (take i marks))
 
   pub marked_more : i < most_steps → length ranges ≡ most_steps → (t : Step) → t ≡ step_at w i → (f₁ f₂ : ℕ) (y z : Bool)
       → f₁ ≡ cond (ltb (first t) i) (first t) i → f₂ ≡ cond (ltb (second t) i) (second t) i
@@ -45,7 +42,7 @@ module _ (w : List ℕ) (ranges : List Range) (marks : List Bool) (i : ℕ) (g :
       let n : length (steps_in w i) ≡ length (map seen_range (take i ranges)) =
       steps_length w i ∙ sym (length-map (take i ranges) seen_range ∙ length-take-le i ranges (omega arith)) in
       record {
-        filled = filled_more no_mark Any marks i g.filled m tt h;
+        filled = filled_more no_mark marks i g.filled m;
         same = rw (steps_more w i, sym et, grow ranges i v a, map-append, grow marks i m b)
             (marks_more (steps_in w i) (map seen_range (take i ranges)) [] t (seen_range v) n
             ∙ rw g.same

@@ -8,13 +8,16 @@ use native.Mathlib.Omega.{arith}
 use lib.Dec.{ltb}
 use lib.ListN.{length, take}
 use borrow.Author.Tests.{lt-ltb, le-ltb}
-use Rattle.recipe.specs.declared.Reading.{Reading}
+use Rattle.std.specs.Prelude.{Ok, Err}
+use Rattle.recipe.specs.declared.Refusal.{Refusal}
 use Rattle.recipe.specs.declared.Step.{Step}
+use Rattle.recipe.specs.Fault as fault
 use Rattle.recipe.specs.Text.{short, most_steps, read_text}
 use Rattle.recipe.specs.Packed.{bad_words, steps_in}
 use Rattle.recipe.specs.Answer.{Says, Holds}
 use Rattle.recipe.proofs.Packed.{steps_length, holds_words}
-use Rattle.recipe.proofs.Laws.{answer_steps, answer_count, answer_holds, answer_refused}
+use Rattle.reader.specs.Checks.{reading_of}
+use Rattle.reader.proofs.Laws.{read_steps, read_count, read_holds, read_refused}
 use Rattle.semantics.specs.declared.SheetAnswer.{SheetAnswer}
 use Rattle.semantics.specs.Shown.{Shown, refused, sheet_line, sheet_steps, sheet_of, answer_of, bytes_of}
 use Rattle.semantics.proofs.Calls as law
@@ -50,17 +53,16 @@ holds_sheet l w room h = rw (holds_words l w h, h.kept, carried_same l (declared
 
 -- ---- a text
 
-module _ (t : List ℕ) (room : ℕ) (r : Reading) (w : List ℕ) (g : Says (read_text short t) r w) where
+module _ (t : List ℕ) (room : ℕ) (w : List ℕ) where
   -- the reader's refusal
-  pub text_refused : (r.refusal ≡ 0 → ⊥) → sheet_of t room ≡ refused r.refusal r.place.0
-  text_refused h = law.sheet_refused t room r.refusal r.place.0 (answer_refused t r w g h)
+  pub text_refused : (r : Refusal) → Says (read_text short t) (reading_of (Err r)) w → sheet_of t room ≡ refused (fault.number_of r.fault) r.place.0
+  text_refused r g = law.sheet_refused t room (fault.number_of r.fault) r.place.0 (read_refused t w r g)
 
   -- else the sheet is that of the words read, and of these alone
-  pub text_sheet : r.refusal ≡ 0 → length w ≡ 3 * most_steps → sheet_words (take (3 * r.count) w) room ≡ sheet_of t room
-  text_sheet z e =
-      let n = answer_count t r w g z in
-      holds_sheet (steps_in w r.count) (take (3 * r.count) w) room (answer_holds t r w g z (omega (arith, n.1)))
-      ∙ sym (law.sheet_read t room (steps_in w r.count) (answer_steps t r w g z))
+  pub text_sheet : (n : ℕ) → Says (read_text short t) (reading_of (Ok n)) w → length w ≡ 3 * most_steps → sheet_words (take (3 * n) w) room ≡ sheet_of t room
+  text_sheet n g e =
+      let few = read_count t w n g in
+      holds_sheet (steps_in w n) (take (3 * n) w) room (read_holds t w n g (omega (arith, few.1))) ∙ sym (law.sheet_read t room (steps_in w n) (read_steps t w n g))
 
 -- ---- the contract
 

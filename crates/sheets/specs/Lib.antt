@@ -1,2 +1,3 @@
 -- What the contracts of `sheets` cite beside the definitions of `semantics`.
+pub mod Answer
 pub mod Packed

@@ -2,82 +2,83 @@
 // document 02, W-203).
 #![tactic(auto)]
 
-ghost use Rattle.std.specs.Prelude.{◌≡◌, List, [], ◌*◌, ◌≤◌, length};
+ghost use Rattle.std.specs.Prelude.{◌≡◌, List, [], ◌*◌, ◌/◌, ◌≤◌, length};
 ghost use Rattle.recipe.specs.declared.Step.{Step};
-ghost use Rattle.recipe.specs.Text.{most_steps};
-ghost use Rattle.recipe.specs.Packed.{steps_in};
+ghost use Rattle.recipe.specs.Packed.{steps_of};
 ghost use Rattle.recipe.specs.Answer.{Holds};
-ghost use Rattle.semantics.specs.Shown.{refused, sheet_line, sheet_steps, sheet_of, answer_of, bytes_of};
+ghost use Rattle.semantics.specs.Shown.{sheet_line, sheet_steps, sheet_of, answer_of, bytes_of};
+ghost use Rattle.sheets.specs.Answer.{answered};
 ghost use Rattle.sheets.specs.Packed.{carried_sheet, sheet_words};
 
+use calls::Refused;
 use marks::step_mark;
 use ranges::bounds::step_range;
-use ranges::{Bound, Range, WholeRange};
+use ranges::{Range, WholeRange};
 use reader::read;
 use recipe::{MOST_STEPS, MOST_WORDS, StepNumber};
 use semantics::{SHEET_LINE, SheetAnswer};
 use sheet_line::write_line;
-use steps::{bad_words, step_at};
+use steps::Steps;
 use values::place_of;
 
-// The answer of a refusal at place 0, which is no step's.
-fn refusal(number: u64) -> SheetAnswer
-    ensures { result ≡ answer_of (refused number 0) }
+// What C is told of a sheet, which shows so many steps or is refused.
+fn answer(sheet: Result<usize, Refused>) -> SheetAnswer
+    ensures { result ≡ answered sheet }
 {
-    SheetAnswer {
-        refusal: number,
-        place: 0,
-        steps: 0,
+    match sheet {
+        Ok(steps) => SheetAnswer {
+            refusal: 0,
+            place: 0,
+            steps: steps as u64,
+        },
+        Err(why) => SheetAnswer::from(why),
     }
 }
 
-// The answer of a refusal at a step.
-fn refusal_at(number: u64, step: StepNumber) -> SheetAnswer
-    ensures { result ≡ answer_of (refused number step.0) }
+// The sheet of the steps; writes its lines only after the last has its range.
+fn write_sheet(steps: Steps, bytes: &mut [u8]) -> Result<usize, Refused>
+    requires { length steps.words.now / 3 * sheet_line ≤ length bytes.old }
+    ensures { (answered result ≡ answer_of (carried_sheet (steps_of steps.entry.words.now)))
+        × (bytes.new ≡ bytes_of (carried_sheet (steps_of steps.entry.words.now)) bytes.old) }
 {
-    SheetAnswer {
-        refusal: number,
-        place: step.0 as u64,
-        steps: 0,
-    }
-}
-
-// The sheet of the first n steps; writes its lines only after the last has its range.
-fn write_sheet(steps: &[u64], n: usize, bytes: &mut [u8]) -> SheetAnswer
-    requires { (n ≤ most_steps) × (3 * n ≤ length steps.now) × (n * sheet_line ≤ length bytes.old) }
-    ensures { (result ≡ answer_of (carried_sheet (steps_in steps.now n)))
-        × (bytes.new ≡ bytes_of (carried_sheet (steps_in steps.now n)) bytes.old) }
-{
+    let n = steps.len();
     let mut ranges = [Range::Wholes(WholeRange { low: 0, high: 0 }); MOST_STEPS];
     let mut marks = [true; MOST_STEPS];
-    let mut i: usize = 0;
-    while i < n {
-        let t = step_at(steps, i);
+    for i in 0..n {
+        let t = steps.at(i);
         let f = place_of(t.a, i);
         let g = place_of(t.b, i);
         let a = ranges[f];
         let b = ranges[g];
         let r = match step_range(t, a, b) {
-            Bound::Ranged(r) => r,
-            Bound::Refused(number) => return refusal_at(number, StepNumber(i as u16)),
+            Ok(r) => r,
+            Err(why) => return Err(Refused::Step(why, StepNumber(i as u16))),
         };
         let m = step_mark(t.opcode, r, marks[f], marks[g]);
         ranges[i] = r;
         marks[i] = m;
-        i += 1;
     }
-    let mut j: usize = 0;
-    while j < n {
+    for j in 0..n {
         let r = ranges[j];
         let at = j * SHEET_LINE;
         write_line(j, marks[j], r, &mut bytes[at..at + SHEET_LINE]);
-        j += 1;
     }
-    SheetAnswer {
-        refusal: 0,
-        place: 0,
-        steps: n as u64,
+    Ok(n)
+}
+
+// The sheet of a recipe's words.
+fn sheet_on_words(steps: &[u64], bytes: &mut [u8]) -> Result<usize, Refused>
+    ensures { (answered result ≡ answer_of (sheet_words steps.now (length bytes.old)))
+        × (bytes.new ≡ bytes_of (sheet_words steps.now (length bytes.old)) bytes.old) }
+{
+    let Some(recipe) = Steps::new(steps) else {
+        return Err(Refused::Words);
+    };
+    let n = recipe.len();
+    if bytes.len() < n * SHEET_LINE {
+        return Err(Refused::Room);
     }
+    write_sheet(recipe, bytes)
 }
 
 // Writes the sheet of a recipe that was read, 39 bytes a step, and answers the number of steps. The rest of the bytes stays as lent, and so
@@ -91,19 +92,22 @@ fn write_sheet(steps: &[u64], n: usize, bytes: &mut [u8]) -> SheetAnswer
 pub fn sheet_recipe(steps: &[u64], bytes: &mut [u8]) -> SheetAnswer
     ensures value { (result ≡ answer_of (sheet_words steps.now (length bytes.old)))
         × (bytes.new ≡ bytes_of (sheet_words steps.now (length bytes.old)) bytes.old) }
-    ensures value_2 { (l : List Step) → Holds l steps.now →
+    ensures of_steps { (l : List Step) → Holds l steps.now →
         (result ≡ answer_of (sheet_steps l (length bytes.old)))
         × (bytes.new ≡ bytes_of (sheet_steps l (length bytes.old)) bytes.old) }
 {
-    let size = steps.len();
-    if bad_words(size) {
-        return refusal(10);
-    }
-    let n = size / 3;
-    if bytes.len() < n * SHEET_LINE {
-        return refusal(40);
-    }
-    write_sheet(steps, n, bytes)
+    answer(sheet_on_words(steps, bytes))
+}
+
+// The sheet of a recipe's text.
+fn sheet_on_text(text: &[u8], bytes: &mut [u8]) -> Result<usize, Refused>
+    ensures { (answered result ≡ answer_of (sheet_of text.now (length bytes.old)))
+        × (bytes.new ≡ bytes_of (sheet_of text.now (length bytes.old)) bytes.old) }
+{
+    let mut steps = [0u64; MOST_WORDS];
+    let n = read(text, &mut steps)?;
+    let size = 3 * n;
+    sheet_on_words(&steps[..size], bytes)
 }
 
 // The same of a recipe's text. Refuses 10 to 17 as the reader does, before all others.
@@ -111,11 +115,5 @@ pub fn sheet(text: &[u8], bytes: &mut [u8]) -> SheetAnswer
     ensures { (result ≡ answer_of (sheet_of text.now (length bytes.old)))
         × (bytes.new ≡ bytes_of (sheet_of text.now (length bytes.old)) bytes.old) }
 {
-    let mut steps = [0u64; MOST_WORDS];
-    let recipe = read(text, &mut steps);
-    if recipe.refusal != 0 {
-        return refusal_at(recipe.refusal, recipe.place);
-    }
-    let size = 3 * recipe.count;
-    sheet_recipe(&steps[..size], bytes)
+    answer(sheet_on_text(text, bytes))
 }

@@ -4,7 +4,7 @@
 // What a call reads or writes no contract can say; these say which bytes of the buffer it may speak of.
 #![tactic(auto)]
 
-ghost use Rattle.std.specs.Prelude.{◌≡◌, ◌≤◌, length, take};
+ghost use Rattle.std.specs.Prelude.{◌≡◌, ◌≤◌, IfOk, length, take};
 
 use std::env::FillError;
 use std::fs::OpenOptions;
@@ -17,13 +17,6 @@ mod reason;
 use pause::pause;
 pub use reason::fail;
 
-// What a read gave: so many bytes at the start of the buffer, and none at the end of the input. Or that it failed, and why.
-#[derive(Drop)]
-pub struct Got {
-    pub count: usize,
-    pub failed: Option<io::Error>,
-}
-
 // Whether the call that has failed so is to be made again.
 fn is_to_be_repeated(rt: &HostRuntime, error: &io::Error) -> bool {
     match error.kind() {
@@ -35,84 +28,55 @@ fn is_to_be_repeated(rt: &HostRuntime, error: &io::Error) -> bool {
     }
 }
 
-// Reads once from standard input. A proved loop ends, and nothing says that signals do: the turns are counted down from a number that no run
-// uses up.
-pub fn read(rt: &HostRuntime, buf: &mut [u8]) -> Got
-    ensures { (result.count ≤ length buf.new) × (result.count ≡ length (take result.count buf.new)) }
+// Reads once from standard input, and answers how many bytes it has put at the start of the buffer: none at the end of the input. A proved loop
+// ends, and nothing says that signals do: there are more turns than any run uses up.
+pub fn read(rt: &HostRuntime, buf: &mut [u8]) -> io::Result<usize>
+    ensures counted { IfOk result (λ count. (count ≤ length buf.new) × (count ≡ length (take count buf.new))) }
+    ensures kept { length buf.new ≡ length buf.old }
 {
-    let mut turns = u64::MAX;
-    while turns > 0 {
-        turns -= 1;
+    for _ in 0..u64::MAX {
         match rt.stdin().read(buf) {
-            Ok(count) => {
-                return Got {
-                    count,
-                    failed: None,
-                };
-            }
-            Err(error) => {
-                if !is_to_be_repeated(rt, &error) {
-                    return Got {
-                        count: 0,
-                        failed: Some(error),
-                    };
-                }
-            }
+            Err(error) if is_to_be_repeated(rt, &error) => {}
+            answer => return answer,
         }
     }
-    Got {
-        count: 0,
-        failed: Some(io::Error::from(ErrorKind::TimedOut)),
-    }
+    Err(io::Error::from(ErrorKind::TimedOut))
 }
 
-// Reads from standard input until the buffer is full or the input ends.
-pub fn read_full(rt: &HostRuntime, buf: &mut [u8]) -> Got
-    ensures { (result.count ≤ length buf.new) × (result.count ≡ length (take result.count buf.new)) }
+// Reads from standard input until the buffer is full or the input ends, and answers how many bytes stand at the start of the buffer.
+pub fn read_full(rt: &HostRuntime, buf: &mut [u8]) -> io::Result<usize>
+    ensures counted { IfOk result (λ count. (count ≤ length buf.new) × (count ≡ length (take count buf.new))) }
+    ensures kept { length buf.new ≡ length buf.old }
 {
     let mut done: usize = 0;
     while done < buf.len() {
-        let got = read(rt, &mut buf[done..]);
-        if got.failed.is_some() {
-            return Got {
-                count: done,
-                failed: got.failed,
-            };
+        let count = read(rt, &mut buf[done..])?;
+        if count == 0 {
+            break;
         }
-        if got.count == 0 {
-            return Got {
-                count: done,
-                failed: None,
-            };
-        }
-        done += got.count;
+        done += count;
     }
-    Got {
-        count: done,
-        failed: None,
-    }
+    Ok(done)
 }
 
 // Writes all of these bytes to standard output, and answers whether it took them.
 pub fn write(rt: &HostRuntime, bytes: &[u8]) -> io::Result<()> {
-    let mut done: usize = 0;
-    let mut turns = u64::MAX;
-    while done < bytes.len() {
-        if turns == 0 {
-            return Err(io::Error::from(ErrorKind::TimedOut));
+    let mut rest = bytes;
+    for _ in 0..u64::MAX {
+        if rest.is_empty() {
+            return Ok(());
         }
-        turns -= 1;
-        match rt.stdout().write(&bytes[done..]) {
+        match rt.stdout().write(rest) {
             Ok(0) => return Err(io::Error::from(ErrorKind::WriteZero)),
-            Ok(put) => done += put,
-            Err(error) => {
-                if !is_to_be_repeated(rt, &error) {
-                    return Err(error);
-                }
-            }
+            Ok(put) => rest = &rest[put..],
+            Err(error) if is_to_be_repeated(rt, &error) => {}
+            Err(error) => return Err(error),
         }
     }
-    Ok(())
+    if rest.is_empty() {
+        return Ok(());
+    }
+    Err(io::Error::from(ErrorKind::TimedOut))
 }
 
 // Whether a sync that has failed so says only that this file is none that can be synced.

@@ -3,13 +3,13 @@ ghost use Rattle.std.specs.Prelude.{◌≡◌};
 ghost use Rattle.recipe.specs.Text.{double_above, whole_above};
 ghost use Rattle.steps.specs.Order.{biased};
 
-use float_format::Binary64;
+use float_format::Pattern;
 
 // Whether p's double is above q's: ranks compare as the numbers do.
 pub fn double_above(p: u64, q: u64) -> bool
     ensures { result ≡ double_above p q }
 {
-    Binary64::rank(q) < Binary64::rank(p)
+    q.rank() < p.rank()
 }
 
 // The whole number's distance from the smallest, which compares as the numbers do.

@@ -1,7 +1,7 @@
 // The step table (document 01, "Recipe text"; steps 24 and 40 to 42: document 02, W-204 and W-208). What the reader asks of an opcode, and whether
 // the run takes an input for it, is read off its row.
 ghost use Rattle.std.specs.Prelude.{◌≡◌};
-ghost use Rattle.recipe.specs.Table.{row_of, answer_kind, is_input, same_kind, kind_number};
+ghost use Rattle.recipe.specs.Table.{row_of, answer_kind, is_input, kind_number};
 
 use recipe::{Kind, Row};
 
@@ -61,10 +61,7 @@ pub fn answer_kind(row: Row) -> Kind
 {
     match row {
         Row::Unknown => Kind::Double,
-        Row::Input(k) => k,
-        Row::Constant(k) => k,
-        Row::Unary(_, k) => k,
-        Row::Binary(_, _, k) => k,
+        Row::Input(k) | Row::Constant(k) | Row::Unary(_, k) | Row::Binary(_, _, k) => k,
     }
 }
 
@@ -72,13 +69,7 @@ pub fn answer_kind(row: Row) -> Kind
 pub fn is_input(row: Row) -> bool
     ensures { result ≡ is_input row }
 {
-    match row {
-        Row::Unknown => false,
-        Row::Input(_) => true,
-        Row::Constant(_) => false,
-        Row::Unary(_, _) => false,
-        Row::Binary(_, _, _) => false,
-    }
+    matches!(row, Row::Input(_))
 }
 
 // Whether a step with this opcode is an input. On its own, so that the compiler folds the table into the one test that is left of it before it
@@ -87,22 +78,6 @@ pub fn declares_input(opcode: u8) -> bool
     ensures { result ≡ is_input (row_of opcode) }
 {
     is_input(row_of(opcode))
-}
-
-// Whether both are doubles, or both whole numbers.
-pub fn same_kind(a: Kind, b: Kind) -> bool
-    ensures { result ≡ same_kind a b }
-{
-    match a {
-        Kind::Double => match b {
-            Kind::Double => true,
-            Kind::Whole => false,
-        },
-        Kind::Whole => match b {
-            Kind::Double => false,
-            Kind::Whole => true,
-        },
-    }
 }
 
 // The kind's number in a sheet and in a run's answer: 1 double, 2 whole.

@@ -7,7 +7,13 @@ use mathlib.Core.Logic.{⊎_elim}
 use Prim.Native.Nat.{ℕ, ◌+◌, ◌-◌, ◌≤◌, ◌<◌}
 use native.Mathlib.Omega.{arith}
 use lib.ListN.{length, get_or, take, drop, length-drop}
-use lib.Seq.{take-append-add, take-append-le, length-take-le}
+use lib.Seq.{take-append-add, take-append-le, take_all, length-take-le, get_or-drop}
+use lib.Dec.{eqb}
+use borrow.Author.Tests.{lt-ltb, eq-eqb, eqb-true}
+use Rattle.std.specs.Prelude.{Some, None}
+use Rattle.std.specs.List.{position, position_or_len}
+use Rattle.std.proofs.lemmas.List.Quantifiers.{position-Some}
+use Rattle.std.proofs.lemmas.List.Sums.{fails_before_first}
 use Rattle.recipe.specs.declared.Step.{Step}
 use Rattle.recipe.specs.Answer.{Holds}
 use Rattle.hexadecimal.proofs.Parts.{put as part-put}
@@ -23,10 +29,53 @@ use Rattle.programs.proofs.Batches.{Due, due_none, due_more, due_ended, due_full
 
 -- ---- where a line ends
 
-pub ends_more : (s : List ℕ) (from i : ℕ) → ((k : ℕ) → from ≤ k → k < i → get_or s k 0 ≡ 10 → ⊥) → (get_or s i 0 ≡ 10 → ⊥)
-    → (k : ℕ) → from ≤ k → k < i + 1 → get_or s k 0 ≡ 10 → ⊥
-ends_more s from i f g k h m e =
-    ⊎_elim (λ (p : k < i). f k h p e) (λ (p : i ≤ k). let q : k ≡ i = omega arith in g (rw q at e)) (lt_or_ge k i)
+position-None : (s : List ℕ) → position (λ b. eqb b 10) s ≡ None → (k : ℕ) → k < length s → eqb (get_or s k 0) 10 ≡ false
+position-None s e k h =
+    ⊎_elim
+    (λ (p : position_or_len (λ b. eqb b 10) s < length s).
+    let z : Some (position_or_len (λ b. eqb b 10) s) ≡ None = rw (position, lt-ltb (position_or_len (λ b. eqb b 10) s) (length s) p) at e in never (cc))
+    (λ (p : length s ≤ position_or_len (λ b. eqb b 10) s). fails_before_first (λ b. eqb b 10) s k 0 (omega arith))
+    (lt_or_ge (position_or_len (λ b. eqb b 10) s) (length s))
+
+-- the bytes from a place on
+pub left : (s : List ℕ) (i : ℕ) → take (length s - i) (drop i s) ≡ drop i s
+left s i = take_all (length s - i) (drop i s) (simp length-drop (omega arith))
+
+at_place : (s : List ℕ) (i k : ℕ) → i ≤ k → get_or (drop i s) (k - i) 0 ≡ get_or s k 0
+at_place s i k m = let e : i + (k - i) ≡ k = omega arith in get_or-drop i s (k - i) 0 ∙ ap (λ (j : ℕ). get_or s j 0) e
+
+no_feed : (s : List ℕ) (i k : ℕ) → i ≤ k → eqb (get_or (drop i s) (k - i) 0) 10 ≡ false → get_or s k 0 ≡ 10 → ⊥
+no_feed s i k m f q = let z : true ≡ false = sym (eq-eqb (get_or s k 0) 10 q) ∙ ap (λ (x : ℕ). eqb x 10) (sym (at_place s i k m)) ∙ f in never (cc)
+
+module _ (s t : List ℕ) (i : ℕ) (h : i ≤ length s) (r : t ≡ drop i s) where
+  size : length t ≡ length s - i
+  size = ap length r ∙ length-drop i s
+
+  pub line_found : (n : ℕ) → position (λ b. eqb b 10) t ≡ Some n → LineEnd s i (i + n) × (i + n < length s)
+  line_found n e =
+      let p = position-Some (λ b. eqb b 10) t n 0 e in
+      let m = size in (
+        record {
+          after = omega arith;
+          within = omega (arith, p.0);
+          before = λ k a b. no_feed s i k a (ap (λ (x : List ℕ). eqb (get_or x (k - i) 0) 10) (sym r) ∙ p.2 (k - i) (omega arith));
+          at = λ _. sym (ap (λ (x : List ℕ). get_or x n 0) r ∙ get_or-drop i s n 0) ∙ eqb-true (get_or t n 0) 10 p.1;
+        },
+        omega (arith, p.0),
+      )
+
+  pub line_missing : position (λ b. eqb b 10) t ≡ None → LineEnd s i (length s)
+  line_missing e =
+      let m = size in
+      record {
+        after = h;
+        within = omega arith;
+        before = λ k a b. no_feed s i k a (ap (λ (x : List ℕ). eqb (get_or x (k - i) 0) 10) (sym r) ∙ position-None t e (k - i) (omega arith));
+        at = λ j. absurd (omega arith);
+      }
+
+pub first_found : (s : List ℕ) (n : ℕ) → position (λ b. eqb b 10) s ≡ Some n → LineEnd s 0 n × (n < length s)
+first_found s n e = let z : 0 + n ≡ n = omega arith in rw z at (line_found s s 0 (omega arith) refl n e)
 
 -- ---- line after line
 
@@ -91,19 +140,19 @@ module _ (w s : List ℕ) (from : ℕ) (out₀ out : List ℕ) (i put : ℕ) (g 
       }
 
   -- the rest has no line feed
-  pub going_rest : (e : ℕ) → LineEnd s i e → e ≡ length s → 19 ≤ length out₀ → Answered w s from (record { at = i; put = put; full = false }) out
-  going_rest e d h m =
+  pub going_rest : LineEnd s i (length s) → 19 ≤ length out - put → 19 ≤ length out₀ → Answered w s from (record { at = i; put = put }) out
+  going_rest d k m =
       record {
         after = g.after;
         within = g.within;
-        moved = λ z. never (cc);
-        rest = λ _. rw h at d;
+        moved = λ z. absurd (omega arith);
+        rest = λ _. d;
         paid = g.paid;
-        batch = λ l f. rw g.out_length (due_ended l s from (length out₀) i put (take put out) (g.due l f) m (ended_rest s i e d h));
+        batch = λ l f. rw g.out_length (due_ended l s from (length out₀) i put (take put out) (g.due l f) m (ended_rest s i (length s) d refl));
       }
 
   -- the output has room for one answer, so that at least one line was taken before it is full
-  pub going_full : 19 ≤ length out₀ → length out - put < 19 → Answered w s from (record { at = i; put = put; full = true }) out
+  pub going_full : 19 ≤ length out₀ → length out - put < 19 → Answered w s from (record { at = i; put = put }) out
   going_full h k =
       record {
         after = g.after;
@@ -112,7 +161,7 @@ module _ (w s : List ℕ) (from : ℕ) (out₀ out : List ℕ) (i put : ℕ) (g 
             (λ (q : from < i). q)
             (λ (q : i ≤ from). let z = g.idle q in let e = g.out_length in absurd (omega arith))
             (lt_or_ge from i);
-        rest = λ z. never (cc);
+        rest = λ z. absurd (omega arith);
         paid = g.paid;
         batch = λ l f. rw g.out_length (due_full l s from (length out₀) i put (take put out) (g.due l f) h (omega (arith, g.out_length)));
       }

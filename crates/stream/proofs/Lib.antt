@@ -1,4 +1,3 @@
 -- Laws in the shape of the code.
-pub mod Keeping
 pub mod Answering
 pub mod Taking

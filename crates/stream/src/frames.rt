@@ -1,126 +1,107 @@
 // Frame lines, taken from chunks that end anywhere. A line that lies whole in a chunk is read where it stands; what a chunk has of a line
 // that goes on in the next is kept in a buffer.
-ghost use Rattle.std.specs.Prelude.{◌≡◌, List, ◌++◌, ℕ, ◌≤◌, ◌<◌, length, take};
+ghost use Rattle.std.specs.Prelude.{◌≡◌, List, ◌++◌, ℕ, ◌≤◌, ◌<◌, eqb, length, position, take};
 ghost use Rattle.recipe.specs.declared.Step.{Step};
 ghost use Rattle.recipe.specs.Answer.{Holds};
 ghost use Rattle.programs.specs.Output.{frame_line};
-ghost use Rattle.programs.specs.Stage.{NoFeed, Kept, LineEnd, Answered, Handled, between, Untouched};
+ghost use Rattle.programs.specs.Stage.{NoFeed, Kept, kept_bytes, Answered, Handled, Untouched};
 
 use output::{LINE, frame_line, refusal_line};
-use programs::Lines;
+use programs::Progress;
 
-// What a piece of a chunk came to: the place after it, the bytes kept of the line that it ends in, and the bytes put out.
+// What a piece of a chunk came to, and how many bytes are kept of the line that it ends in: none where that is longer than the longest frame.
 #[derive(Drop)]
 pub struct Turn {
-    pub at: usize,
-    pub count: usize,
-    pub put: usize,
+    pub progress: Progress,
+    pub kept: Option<usize>,
 }
 
-// The place of the first line feed of s from a place on, or s's length where there is none.
-fn line_end(s: &[u8], from: usize) -> usize
-    requires { from ≤ length s.now }
-    ensures { LineEnd s.now from result }
+// The place of the first line feed, if there is one.
+fn line_end(s: &[u8]) -> Option<usize>
+    ensures { result ≡ position (λ b. eqb b 10) s.now }
 {
-    let mut i = from;
-    while i < s.len() {
-        if s[i] == b'\n' {
-            return i;
-        }
-        i += 1;
-    }
-    i
+    s.iter().position(|b| *b == b'\n')
 }
 
-// Adds a part to the n bytes kept of a line, and answers how many are kept then; 257 where the line is longer than the longest frame.
-fn keep(buffer: &mut [u8], n: usize, part: &[u8]) -> usize
-    requires { 256 ≤ length buffer.old }
-    ensures { ((line : List ℕ) → Kept line n buffer.old → Kept (line ++ part.now) result buffer.new)
-        × Untouched 256 buffer.old buffer.new }
+// Adds a part to what is kept of a line, and answers how many bytes are kept then.
+fn keep(buffer: &mut [u8], kept: Option<usize>, part: &[u8]) -> Option<usize>
+    requires { (256 ≤ length buffer.old) × (kept_bytes kept ≤ 256) }
+    ensures { (kept_bytes result ≤ 256) × ((line : List ℕ) → Kept line kept buffer.old → Kept (line ++ part.now) result buffer.new) }
 {
-    let mut k = n;
-    let mut i: usize = 0;
-    while i < part.len() {
-        if k > 255 {
-            return 257;
-        }
-        buffer[k] = part[i];
-        k += 1;
-        i += 1;
+    let n = kept?;
+    if part.len() > 256 - n {
+        return None;
     }
-    k
+    let end = n + part.len();
+    buffer[n..end].copy_from_slice(part);
+    Some(end)
 }
 
-// Answers a line of which n bytes are kept.
-pub(crate) fn kept_line(steps: &[u64], buffer: &[u8], n: usize, out: &mut [u8]) -> usize
-    requires { (256 ≤ length buffer.now) × (19 ≤ length out.old) }
+// Answers a line of which so much is kept.
+pub(crate) fn kept_line(steps: &[u64], buffer: &[u8], kept: Option<usize>, out: &mut [u8]) -> usize
+    requires { (256 ≤ length buffer.now) × (kept_bytes kept ≤ 256) × (19 ≤ length out.old) }
     ensures { (result ≤ 19) × (
-        (l : List Step) (line : List ℕ) → Holds l steps.now → Kept line n buffer.now → take result out.new ≡ frame_line l line)
+        (l : List Step) (line : List ℕ) → Holds l steps.now → Kept line kept buffer.now → take result out.new ≡ frame_line l line)
         × Untouched result out.old out.new }
 {
-    if n > 256 {
-        return refusal_line(30, 0, out);
+    match kept {
+        Some(n) => frame_line(steps, &buffer[..n], out),
+        None => refusal_line(30, 0, out),
     }
-    frame_line(steps, &buffer[..n], out)
 }
 
-// Answers the lines of s from a place on, until no line feed is left or out has too little room for another answer. The steps are those of
-// a recipe that was read.
-pub fn answer_lines(steps: &[u64], s: &[u8], from: usize, out: &mut [u8]) -> Lines
-    requires { (from ≤ length s.now) × (19 ≤ length out.old) }
-    ensures { (result.put ≤ length out.old) × Answered steps.now s.now from result out.new
+// Answers the lines of s, until no line feed is left or out has too little room for another answer. The steps are those of a recipe that was
+// read.
+pub fn answer_lines(steps: &[u64], s: &[u8], out: &mut [u8]) -> Progress
+    requires { 19 ≤ length out.old }
+    ensures { (result.put ≤ length out.old) × Answered steps.now s.now 0 result out.new
         × Untouched result.put out.old out.new }
 {
-    let mut i = from;
+    let mut at: usize = 0;
     let mut put: usize = 0;
     while out.len() - put >= LINE {
-        let end = line_end(s, i);
-        if end == s.len() {
-            return Lines {
-                at: i,
-                put,
-                full: false,
-            };
-        }
-        put += frame_line(steps, &s[i..end], &mut out[put..]);
-        i = end + 1;
+        let end = match line_end(&s[at..]) {
+            Some(n) => at + n,
+            None => return Progress { at, put },
+        };
+        put += frame_line(steps, &s[at..end], &mut out[put..]);
+        at = end + 1;
     }
-    Lines {
-        at: i,
-        put,
-        full: true,
-    }
+    Progress { at, put }
 }
 
 // Takes the chunk's bytes of a line of which a part is kept, and answers the line where it ends in the chunk.
 fn take_rest(
     steps: &[u64],
     buffer: &mut [u8],
-    count: usize,
+    kept: Option<usize>,
     chunk: &[u8],
-    from: usize,
     out: &mut [u8],
 ) -> Turn
-    requires { (256 ≤ length buffer.old) × (from < length chunk.now) × (19 ≤ length out.old) }
-    ensures { (from < result.at) × (result.at ≤ length chunk.now) × (result.put ≤ length out.old) × (
-        (l : List Step) (line : List ℕ) → Holds l steps.now → Kept line count buffer.old → NoFeed line →
-        Handled l line (between from result.at chunk.now) (take result.put out.new) result.count buffer.new)
-        × Untouched result.put out.old out.new × Untouched 256 buffer.old buffer.new }
+    requires { (256 ≤ length buffer.old) × (kept_bytes kept ≤ 256) × (0 < length chunk.now) × (19 ≤ length out.old) }
+    ensures { (0 < result.progress.at) × (result.progress.at ≤ length chunk.now) × (result.progress.put ≤ length out.old)
+        × (kept_bytes result.kept ≤ 256) × (
+        (l : List Step) (line : List ℕ) → Holds l steps.now → Kept line kept buffer.old → NoFeed line →
+        Handled l line (take result.progress.at chunk.now) (take result.progress.put out.new) result.kept buffer.new)
+        × Untouched result.progress.put out.old out.new }
 {
-    let end = line_end(chunk, from);
-    let kept = keep(buffer, count, &chunk[from..end]);
-    if end == chunk.len() {
-        return Turn {
-            at: end,
-            count: kept,
-            put: 0,
-        };
-    }
-    let put = kept_line(steps, buffer, kept, out);
+    let end = match line_end(chunk) {
+        Some(end) => end,
+        None => {
+            return Turn {
+                progress: Progress {
+                    at: chunk.len(),
+                    put: 0,
+                },
+                kept: keep(buffer, kept, chunk),
+            };
+        }
+    };
+    let whole = keep(buffer, kept, &chunk[..end]);
+    let put = kept_line(steps, buffer, whole, out);
     Turn {
-        at: end + 1,
-        count: 0,
-        put,
+        progress: Progress { at: end + 1, put },
+        kept: Some(0),
     }
 }
 
@@ -129,33 +110,32 @@ fn take_rest(
 pub(crate) fn take_lines(
     steps: &[u64],
     buffer: &mut [u8],
-    count: usize,
+    kept: Option<usize>,
     chunk: &[u8],
-    from: usize,
     out: &mut [u8],
 ) -> Turn
-    requires { (256 ≤ length buffer.old) × (from < length chunk.now) × (19 ≤ length out.old) }
-    ensures { (from < result.at) × (result.at ≤ length chunk.now) × (result.put ≤ length out.old) × (
-        (l : List Step) (line : List ℕ) → Holds l steps.now → Kept line count buffer.old → NoFeed line →
-        Handled l line (between from result.at chunk.now) (take result.put out.new) result.count buffer.new)
-        × Untouched result.put out.old out.new × Untouched 256 buffer.old buffer.new }
+    requires { (256 ≤ length buffer.old) × (kept_bytes kept ≤ 256) × (0 < length chunk.now) × (19 ≤ length out.old) }
+    ensures { (0 < result.progress.at) × (result.progress.at ≤ length chunk.now) × (result.progress.put ≤ length out.old)
+        × (kept_bytes result.kept ≤ 256) × (
+        (l : List Step) (line : List ℕ) → Holds l steps.now → Kept line kept buffer.old → NoFeed line →
+        Handled l line (take result.progress.at chunk.now) (take result.progress.put out.new) result.kept buffer.new)
+        × Untouched result.progress.put out.old out.new }
 {
-    if count > 0 {
-        return take_rest(steps, buffer, count, chunk, from, out);
+    if !matches!(kept, Some(0)) {
+        return take_rest(steps, buffer, kept, chunk, out);
     }
-    let lines = answer_lines(steps, chunk, from, out);
-    let at = lines.at;
-    if lines.full {
+    let lines = answer_lines(steps, chunk, out);
+    if out.len() - lines.put < LINE {
         return Turn {
-            at,
-            count: 0,
-            put: lines.put,
+            progress: lines,
+            kept: Some(0),
         };
     }
-    let kept = keep(buffer, 0, &chunk[at..]);
     Turn {
-        at: chunk.len(),
-        count: kept,
-        put: lines.put,
+        progress: Progress {
+            at: chunk.len(),
+            put: lines.put,
+        },
+        kept: keep(buffer, Some(0), &chunk[lines.at..]),
     }
 }

@@ -19,21 +19,21 @@ module _ (x : ℕ) (n : is_nan binary64 x ≡ false) where
   pub carried : T (not (Ieee.nan_bits Ieee.binary64 x))
   carried = rw (nan_same x, n) tt
 
-  pub float_real : T (not (Ieee.is_nan (Ieee.of_bits Ieee.binary64 x)))
-  float_real = rw (sym (nan_bits_is Ieee.binary64 x), nan_same x, n) tt
+  pub float_number : Ieee.is_nan (Ieee.of_bits Ieee.binary64 x) ≡ false
+  float_number = sym (nan_bits_is Ieee.binary64 x) ∙ nan_same x ∙ n
 
   pub same_bits : x < 2 ^ 64 → Ieee.to_bits Ieee.binary64 (Ieee.of_bits Ieee.binary64 x) ≡ x
-  same_bits h = to_bits-of_bits Ieee.binary64 x (omega arith) float_real
+  same_bits h = to_bits-of_bits Ieee.binary64 x (omega arith) (rw float_number tt)
 
 -- a float that the language holds, of the pattern y
 module _ (v : Ieee.Float) (y : ℕ) (h : Ieee.fits Ieee.binary64 v ≡ true) (e : Ieee.to_bits Ieee.binary64 v ≡ y) (n : is_nan binary64 y ≡ false) where
-  pub held_real : T (not (Ieee.is_nan v))
-  held_real = rw (sym (of_bits-to_bits Ieee.binary64 v (rw h tt)), e) (float_real y n)
+  pub held_number : Ieee.is_nan v ≡ false
+  held_number = rw (sym (of_bits-to_bits Ieee.binary64 v (rw h tt)), e) (float_number y n)
 
   pub held_is : double (Ieee.to_bits Ieee.binary64 v) ≡ real y
   held_is = rw (e, n)
 
--- what `Value::real` carries: the pattern y, picked by the test t
+-- what `Number::of_pattern` carries: the pattern y, picked by the test t
 pub record Picked (x y : ℕ) : Type 0 where
   pub number : is_nan binary64 y ≡ false
   pub fits : y < 2 ^ 64

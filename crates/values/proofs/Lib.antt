@@ -1,5 +1,3 @@
 -- The laws of `values`.
 pub mod Floats
 pub mod Wholes
-pub mod Outcomes
-pub mod Sums

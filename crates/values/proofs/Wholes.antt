@@ -1,10 +1,10 @@
 -- The double of a whole number of magnitude at most 2^53. Assumes nothing.
-use mathlib.Core.Path.{◌≡◌, refl, sym, ap, ◌∙◌}
+use mathlib.Core.Path.{◌≡◌, sym, ap, ◌∙◌}
 use mathlib.Core.Bool.{Bool, true, false, not}
 use Prim.Native.Nat.{ℕ, ◌+◌, ◌*◌, ◌^◌}
 use native.Mathlib.Omega.{arith}
-use lib.IntN.{ℤ, pos, negsuc, nat_abs}
-use lib.Signed.{mag, non_neg}
+use lib.IntN.{ℤ, nat_abs}
+use lib.Signed.{non_neg}
 use Rattle.float_format.specs.Format.{binary64, signed}
 use Rattle.float_format.specs.Number.{encode}
 use Rattle.float_format.proofs.Units.{encode_at}
@@ -20,13 +20,3 @@ pattern_up z r n e = e ∙ sym (ap (λ (t : Bool). signed binary64 (not t) (enco
 pub pattern_down : (z : ℤ) (r : ℕ) → non_neg z ≡ false → r ≡ encode 52 (nat_abs z * 2 ^ 1074) → 0x8000_0000_0000_0000 + r ≡ of_whole z
 pattern_down z r n e =
     ap (λ (k : ℕ). 0x8000_0000_0000_0000 + k) e ∙ sym (ap (λ (t : Bool). signed binary64 (not t) (encode 52 (nat_abs z * 2 ^ 1074))) n)
-
--- ---- the magnitude
-
-pub abs_up : (z : ℤ) → non_neg z ≡ true → mag z ≡ nat_abs z
-abs_up (pos n) e = refl
-abs_up (negsuc n) e = let t : ◌≡◌ {A = ℕ} 0 1 = cc in absurd (omega arith)
-
-pub abs_down : (z : ℤ) → non_neg z ≡ false → mag z + 1 ≡ nat_abs z
-abs_down (negsuc n) e = omega arith
-abs_down (pos n) e = let t : ◌≡◌ {A = ℕ} 0 1 = cc in absurd (omega arith)

@@ -2,29 +2,26 @@
 ghost use Rattle.std.specs.Prelude.{◌≡◌};
 ghost use Rattle.semantics.specs.Value.{whole, as_double, as_whole, word_of, kind_of};
 ghost use Rattle.values.specs.Carried.{real};
-ghost use Rattle.values.specs.Seen.{Real, seen};
+ghost use Rattle.values.specs.Seen.{seen};
 
-use super::Value;
-use float_format::Binary64;
+use super::{Number, Value};
 use recipe::Kind;
-use twos_complement::{signed, word};
+use twos_complement::word;
 
 impl Value {
     // The double of a pattern, and +0 for a NaN, which no step comes to.
     pub(crate) fn real(x: u64) -> Value
-        ensures { (seen result ≡ real x) × Real result }
+        ensures { seen result ≡ real x }
     {
-        let y = if Binary64::is_nan(x) { 0 } else { x };
-        Value::Double(f64::from_bits(y))
+        Value::Double(Number::of_pattern(x))
     }
 
     // As an operand that is a double: its pattern.
     pub(crate) fn double(self) -> u64
-        requires { Real self }
         ensures { result ≡ as_double (seen self) }
     {
         match self {
-            Value::Double(x) => f64::to_bits(x),
+            Value::Double(x) => x.pattern(),
             Value::Whole(_) => 0,
         }
     }
@@ -41,11 +38,10 @@ impl Value {
 
     // Its 64 bits.
     pub fn word(self) -> u64
-        requires { Real self }
         ensures { result ≡ word_of (seen self) }
     {
         match self {
-            Value::Double(x) => f64::to_bits(x),
+            Value::Double(x) => x.pattern(),
             Value::Whole(z) => word(z),
         }
     }

@@ -12,8 +12,8 @@ use borrow.Author.Tests.{eq-eqb}
 use Rattle.hexadecimal.specs.Hex.{digits}
 use Rattle.hexadecimal.proofs.Digits.{length_digits}
 use Rattle.hexadecimal.proofs.Parts.{put, set_next, put_next, length_put}
-use Rattle.hexadecimal.specs.declared.Field.{Field}
-use Rattle.vectors.specs.declared.case.Parsed.TheVariants.{Malformed}
+use Rattle.std.specs.Prelude.{Option}
+use Rattle.std.specs.Prelude.{None}
 use Rattle.vectors.specs.declared.answer.Answer.{Answer}
 use Rattle.hexadecimal.specs.Hex.{field_of}
 use Rattle.vectors.specs.Line.{separated_by, from_fields, case_of, line_of, response_of, responses}
@@ -24,11 +24,11 @@ pub apart : (s : List ℕ) → get_or s 2 0 ≡ 32 → get_or s 5 0 ≡ 32 → g
 unfolding separated_by
 apart s p q r = rw (eq-eqb (get_or s 2 0) 32 p, eq-eqb (get_or s 5 0) 32 q, eq-eqb (get_or s 22 0) 32 r)
 
-pub unseparated : (s : List ℕ) → separated_by s ≡ false → Malformed ≡ case_of s
+pub unseparated : (s : List ℕ) → separated_by s ≡ false → None ≡ case_of s
 unfolding case_of
 unseparated s h = rw h
 
-pub fields : (s : List ℕ) (function width x y : Field) → separated_by s ≡ true
+pub fields : (s : List ℕ) (function width x y : Option ℕ) → separated_by s ≡ true
     → field_of s 0 2 0 ≡ function → field_of s 3 2 0 ≡ width → field_of s 6 16 0 ≡ x → field_of s 23 16 0 ≡ y → from_fields function width x y ≡ case_of s
 unfolding case_of
 fields s function width x y h f w p q = rw (h, f, w, p, q)

@@ -3,12 +3,15 @@ ghost use Rattle.std.specs.Prelude.{◌≡◌, length};
 ghost use Rattle.std.specs.Int.{w64};
 ghost use Rattle.std.proofs.Common.{of_z};
 ghost use Rattle.float_format.specs.Format.{class_number};
+ghost use Rattle.float_format.specs.Refusals.{refusal_number};
 ghost use Rattle.rounding.specs.Answer.{refusal_of, value_of};
 ghost use Rattle.vectors.specs.Answer.{words, pattern_answer, unknown_answer, whole_answer};
 ghost use Rattle.vectors.specs.Line.{line_of};
 
-use float_format::Class;
-use rounding::Integer;
+use float_format::{Class, Pattern, Refusal, Word};
+use nearest_remainder::WithQuotient;
+use scaling::Decomposed;
+use splitting::Patterns;
 use twos_complement::word;
 
 // The bytes of a line of output, with its line feed.
@@ -35,73 +38,12 @@ impl Answer {
     }
 
     // One pattern, and no refusal.
-    pub(crate) fn pattern(x: u64) -> Answer
-        ensures { result ≡ pattern_answer x }
+    pub(crate) fn pattern<P: Pattern>(x: P) -> Answer
+        ensures { result ≡ pattern_answer (P.bits x) }
     {
         Answer {
             refusal: 0,
-            first: x,
-            second: 0,
-        }
-    }
-
-    // A refusal's number and the word returned.
-    pub(crate) fn refusable(refusal: u64, word: u64) -> Answer
-        ensures { result ≡ words refusal word 0 }
-    {
-        Answer {
-            refusal,
-            first: word,
-            second: 0,
-        }
-    }
-
-    // Two patterns, and no refusal.
-    pub(crate) fn parts(whole: u64, fraction: u64) -> Answer
-        ensures { result ≡ words 0 whole fraction }
-    {
-        Answer {
-            refusal: 0,
-            first: whole,
-            second: fraction,
-        }
-    }
-
-    // A pattern and an exponent.
-    pub(crate) fn scaled(fraction: u64, exponent: i64) -> Answer
-        ensures { result ≡ words 0 fraction (of_z w64 exponent) }
-    {
-        let second = word(exponent);
-        Self::parts(fraction, second)
-    }
-
-    // A refusal's number, the word returned, and a quotient.
-    pub(crate) fn divided(refusal: u64, remainder: u64, quotient: i32) -> Answer
-        ensures { result ≡ words refusal remainder (of_z w64 quotient) }
-    {
-        let second = word(quotient as i64);
-        Answer {
-            refusal,
-            first: remainder,
-            second,
-        }
-    }
-
-    // The number of a class.
-    pub(crate) fn class(c: Class) -> Answer
-        ensures { result ≡ pattern_answer (class_number c) }
-    {
-        Self::pattern(c.number() as u64)
-    }
-
-    // What lround answers.
-    pub(crate) fn integer(n: Integer) -> Answer
-        ensures { result ≡ whole_answer (refusal_of n) (value_of n) }
-    {
-        let first = word(n.value());
-        Answer {
-            refusal: n.refusal(),
-            first,
+            first: x.to_word(),
             second: 0,
         }
     }
@@ -117,5 +59,84 @@ impl Answer {
         line[19] = b' ';
         hexadecimal::write(self.second, &mut line[20..36]);
         line[36] = b'\n';
+    }
+}
+
+impl<P: Pattern> From<Word<P>> for Answer {
+    ghost from_gives = { λ r a. a ≡ words (refusal_number r.refusal) (P.bits r.word) 0 };
+
+    fn from(r: Word<P>) -> Answer {
+        Answer {
+            refusal: r.number(),
+            first: r.word.to_word(),
+            second: 0,
+        }
+    }
+}
+
+impl<P: Pattern> From<Patterns<P>> for Answer {
+    ghost from_gives = { λ r a. a ≡ words 0 (P.bits r.whole) (P.bits r.fraction) };
+
+    fn from(r: Patterns<P>) -> Answer {
+        Answer {
+            refusal: 0,
+            first: r.whole.to_word(),
+            second: r.fraction.to_word(),
+        }
+    }
+}
+
+impl<P: Pattern> From<Decomposed<P>> for Answer {
+    ghost from_gives = { λ r a. a ≡ words 0 (P.bits r.fraction) (of_z w64 r.exponent) };
+
+    fn from(r: Decomposed<P>) -> Answer {
+        Answer {
+            refusal: 0,
+            first: r.fraction.to_word(),
+            second: word(r.exponent),
+        }
+    }
+}
+
+impl<P: Pattern> From<WithQuotient<P>> for Answer {
+    ghost from_gives = { λ r a. a ≡ words (refusal_number r.refusal) (P.bits r.word) (of_z w64 r.quotient) };
+
+    fn from(r: WithQuotient<P>) -> Answer {
+        Answer {
+            refusal: r.number(),
+            first: r.word.to_word(),
+            second: word(r.quotient as i64),
+        }
+    }
+}
+
+impl From<Class> for Answer {
+    ghost from_gives = { λ k a. a ≡ pattern_answer (class_number k) };
+
+    fn from(class: Class) -> Answer {
+        Answer {
+            refusal: 0,
+            first: u8::from(class) as u64,
+            second: 0,
+        }
+    }
+}
+
+impl From<Result<i64, Refusal>> for Answer {
+    ghost from_gives = { λ n a. a ≡ whole_answer (refusal_of n) (value_of n) };
+
+    fn from(n: Result<i64, Refusal>) -> Answer {
+        match n {
+            Ok(value) => Answer {
+                refusal: 0,
+                first: word(value),
+                second: 0,
+            },
+            Err(refusal) => Answer {
+                refusal: u64::from(refusal),
+                first: 0,
+                second: 0,
+            },
+        }
     }
 }

@@ -9,10 +9,10 @@ ghost use Rattle.std.specs.Prelude.{◌≡◌, ◌*◌, ◌≤◌, length, take}
 ghost use Rattle.vectors.specs.Line.{response_of, responses};
 
 mod answer;
+mod call;
 mod case;
 
 use answer::Answer;
-use case::Parsed;
 
 // How many lines are read, answered and written at a time.
 const LINES: usize = 1024;
@@ -23,8 +23,8 @@ fn respond(input: &[u8], output: &mut [u8])
     ensures { output.new ≡ response_of input.now }
 {
     match case::parse(input) {
-        Parsed::Case(c) => c.answer().format(output),
-        Parsed::Malformed => Answer::unknown().format(output),
+        Some(c) => call::answer(c).format(output),
+        None => Answer::unknown().format(output),
     }
 }
 
@@ -33,15 +33,13 @@ fn respond_all(input: &[u8], n: usize, output: &mut [u8])
     requires { (n * 40 ≤ length input.now) × (n * 37 ≤ length output.old) }
     ensures { take (n * 37) output.new ≡ responses input.now n }
 {
-    let mut i: usize = 0;
-    while i < n {
+    for i in 0..n {
         let from = i * case::LINE;
         let to = i * answer::LINE;
         respond(
             &input[from..from + case::LINE],
             &mut output[to..to + answer::LINE],
         );
-        i += 1;
     }
 }
 
@@ -49,16 +47,18 @@ fn respond_all(input: &[u8], n: usize, output: &mut [u8])
 fn run_some(rt: &HostRuntime) -> bool {
     let mut input = [0u8; LINES * case::LINE];
     let mut output = [0u8; LINES * answer::LINE];
-    let got = stdio::read_full(rt, &mut input);
-    if let Some(error) = &got.failed {
-        stdio::fail(
-            rt,
-            "vectors: answers are incomplete: cannot read standard input",
-            error,
-        );
-        return false;
-    }
-    let n = got.count / case::LINE;
+    let count = match stdio::read_full(rt, &mut input) {
+        Ok(count) => count,
+        Err(error) => {
+            stdio::fail(
+                rt,
+                "vectors: answers are incomplete: cannot read standard input",
+                &error,
+            );
+            return false;
+        }
+    };
+    let n = count / case::LINE;
     respond_all(&input, n, &mut output);
     if let Err(error) = stdio::write(rt, &output[..n * answer::LINE]) {
         stdio::fail(
@@ -71,10 +71,11 @@ fn run_some(rt: &HostRuntime) -> bool {
     n == LINES
 }
 
-// A proved loop ends, and nothing says that the input does: the turns are counted down from a number that no run uses up.
+// A proved loop ends, and nothing says that the input does: there are more turns than any run uses up.
 fn main(rt: HostRuntime) {
-    let mut turns = u64::MAX;
-    while turns > 0 && run_some(&rt) {
-        turns -= 1;
+    for _ in 0..u64::MAX {
+        if !run_some(&rt) {
+            return;
+        }
     }
 }

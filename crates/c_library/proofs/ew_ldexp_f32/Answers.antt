@@ -11,4 +11,4 @@ pub returns : goal.returns
 returns c =
     let n = c.args.n in
     let e : to_z w64 (of_z w64 n) ≡ n = search rules in
-    (c.ldexp.ensures.0 ∙ ap (ldexp binary32 c.args.x) e, c.ldexp.ensures.1 ∙ ap (ldexp_refusal binary32 c.args.x) e)
+    (c.into.ensures.0 ∙ c.ldexp.ensures.0 ∙ ap (ldexp binary32 c.args.x) e, c.into.ensures.1 ∙ c.ldexp.ensures.1 ∙ ap (ldexp_refusal binary32 c.args.x) e)

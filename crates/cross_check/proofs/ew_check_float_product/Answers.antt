@@ -18,4 +18,4 @@ returns-then-both_finite c =
 pub returns : goal.returns
 returns c =
     let a = c.args in
-    left a.x a.y (product binary64 a.x a.y) (sym c.both_finite.ensures ∙ c.if-both_finite.false)
+    c.default_nan.ensures.0 ∙ left a.x a.y (product binary64 a.x a.y) (sym c.both_finite.ensures ∙ c.if-both_finite.false)

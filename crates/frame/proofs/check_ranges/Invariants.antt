@@ -1,10 +1,8 @@
--- `check_ranges` meets its contract. The invariant is `Reading.Checking`; the measure is the steps left. Assumes nothing.
-use Prim.Native.Nat.{◌-◌}
+-- `check_ranges` meets its contract. The invariant is `Reading.Checking`. Assumes nothing.
+use Prim.Native.Nat.{◌/◌}
+use lib.ListN.{length}
 use Rattle.frame.proofs.Reading.{Checking}
 use Rattle.frame.proofs.check_ranges.Given as goal
 
 abbrev pub invariant-loop-i : goal.invariant-loop-i
-invariant-loop-i l = Checking l.steps l.n l.inputs.words l.next.0 l.i
-
-abbrev pub decreases-loop-i : goal.decreases-loop-i
-decreases-loop-i l = l.n - l.i
+invariant-loop-i l = Checking l.steps.words.now (length l.steps.words.now / 3) l.inputs l.next.0 l.i

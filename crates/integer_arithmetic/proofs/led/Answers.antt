@@ -2,31 +2,26 @@
 use Prim.Native.Nat.{◌^◌, ◌≤◌}
 use native.Mathlib.Omega.{arith}
 use lib.Pow.{pow_mono}
-use Rattle.float_format.specs.Format.{Format}
-use Rattle.float_format.specs.Width.{format}
-use Rattle.integer_arithmetic.proofs.Words.{led_subnormal, led_normal}
+use Rattle.integer_arithmetic.proofs.Words.{wide_fits, led_subnormal, led_normal}
 use Rattle.integer_arithmetic.proofs.led.Goals.{Start}
 use Rattle.integer_arithmetic.proofs.led.Goals as goal
 
--- the format
-abbrev at : Start → Format
-at s = format s.args.fraction s.args.exponent
-
-weight : (s : Start) → 2 ^ s.args.fraction ≤ 2 ^ 52
-weight s = pow_mono {i = s.args.fraction} {j = 52} s.requires.0.short
+weight : (g : _) (s : Start g) → 2 ^ g.P.Pattern.format.fraction ≤ 2 ^ 52
+weight g s = pow_mono {i = g.P.Pattern.format.fraction} {j = 52} g.met.P.Wide.wide.spare
 
 pub overflow_mul-result : goal.overflow_mul-result
-overflow_mul-result c = rw c.power-then-a-power.ensures (omega (arith, c.leading_shift-k.ensures.2, weight (goal.at.overflow_mul-result c).Start))
+overflow_mul-result g c = rw c.power.ensures (omega (arith, c.normal_shift-k.ensures.2, weight g (goal.at.overflow_mul-result g c).Start))
 
-pub returns-then-a-power : goal.returns-then-a-power
-returns-then-a-power c =
+pub returns-then-a-unit : goal.returns-then-a-unit
+returns-then-a-unit g c =
     let s = c in
-    let k = c.leading_shift-k in
-    rw c.power-then-a-power.ensures
-    (led_subnormal (at (goal.at.returns-then-a-power c).Start) s.args.a k.result s.requires.0 (omega (arith, c.if-a-power.true, c.power.ensures)) k.ensures.0 k.ensures.1 k.ensures.2)
+    let k = c.normal_shift-k in
+    rw (c.power.ensures, c.fraction_bits.ensures)
+    (led_subnormal g.P.Pattern.format s.args.a k.result (wide_fits g.P.Pattern.format g.met.P.Pattern.fits g.met.P.Wide.wide) (omega (arith, c.if-a-unit.true, c.unit.ensures)) k.ensures.0 k.ensures.1 k.ensures.2)
 
 pub returns : goal.returns
-returns c =
+returns g c =
     let s = c in
     let p = c.units-p in
-    led_normal (at (goal.at.returns c).Start) s.args.a p.result.digits p.result.scale s.requires.0 (omega (arith, c.if-a-power.false, c.power.ensures)) p.ensures
+    rw c.fraction_bits-2.ensures
+    (led_normal g.P.Pattern.format s.args.a p.result.digits p.result.scale (wide_fits g.P.Pattern.format g.met.P.Pattern.fits g.met.P.Wide.wide) (omega (arith, c.if-a-unit.false, c.unit.ensures)) p.ensures)

@@ -8,10 +8,10 @@ use Rattle.float_format.proofs.Integers.{integer_beyond, integer_rounded}
 use Rattle.semantics.proofs.Sound.Kept.{valid}
 use Rattle.marks.proofs.is_integral.Goals as goal
 
-pub returns-then-x-ge-INFINITY : goal.returns-then-x-ge-INFINITY
-returns-then-x-ge-INFINITY c = sym (integer_beyond binary64 c.args.x (omega arith))
+pub returns-then-rest-infinity_of : goal.returns-then-rest-infinity_of
+returns-then-rest-infinity_of c = sym (integer_beyond binary64 c.args.x (omega (arith, c.rest.ensures, c.infinity_of.ensures)))
 
 pub returns : goal.returns
 returns c =
     let x = c.args.x in
-    ap (λ y. eqb y x) c.trunc.ensures ∙ sym (integer_rounded binary64 TowardZero x valid (omega arith) (omega arith))
+    ap (λ y. eqb y x) c.trunc.ensures ∙ sym (integer_rounded binary64 TowardZero x valid (omega arith) (omega (arith, c.rest.ensures, c.infinity_of.ensures)))

@@ -5,7 +5,7 @@ use Rattle.nearest_remainder.proofs.Divisions.{moved_whole}
 use Rattle.nearest_remainder.proofs.short_division.Goals as goal
 
 pub returns : goal.returns
-returns c =
+returns g c =
     let a = c.args in
-    let e = moved_whole a.fraction a.m a.n c.requires.0 c.requires.1 c.requires.2 in
+    let e = moved_whole g.P.Pattern.format.fraction a.m a.n g.met.P.Wide.wide.spare c.requires.0 c.requires.1 in
     (ap (λ (k : ℕ). k / a.w) e, ap (λ (k : ℕ). k % a.w) e)

@@ -1,32 +1,25 @@
 -- `refusal_of` meets its contract: the classes of x and of the word, by the rest of each. Assumes nothing.
 use mathlib.Core.Path.{sym}
 use native.Mathlib.Omega.{arith}
-use Rattle.float_format.specs.Format.{Format}
-use Rattle.float_format.specs.Width.{format}
 use Rattle.ordering.proofs.Steps.{refusal_none, refusal_beyond, refusal_some}
-use Rattle.ordering.proofs.refusal_of.Goals.{Start}
 use Rattle.ordering.proofs.refusal_of.Goals as goal
 
--- the format
-abbrev at : Start → Format
-at s = format s.args.fraction s.args.exponent
-
 pub returns-then-rest-top : goal.returns-then-rest-top
-returns-then-rest-top c =
+returns-then-rest-top g c =
     let s = c in
-    sym (refusal_none (at (goal.at.returns-then-rest-top c).Start) s.args.x s.args.word (omega (arith, c.if-rest-top.true, c.rest.ensures, c.infinity_of-top.ensures)))
+    sym (refusal_none g.P.Pattern.format s.args.x s.args.word (omega (arith, c.if-rest-top.true, c.rest.ensures, c.infinity_of-top.ensures)))
 
 pub returns-then-rest-top-2 : goal.returns-then-rest-top-2
-returns-then-rest-top-2 c =
+returns-then-rest-top-2 g c =
     let s = c in
     sym
-    (refusal_some (at (goal.at.returns-then-rest-top-2 c).Start) s.args.x s.args.word
+    (refusal_some g.P.Pattern.format s.args.x s.args.word
     (omega (arith, c.if-rest-top-2.true, c.rest-2.ensures, c.infinity_of-top.ensures))
     (omega (arith, c.if-rest-top.false, c.rest.ensures, c.infinity_of-top.ensures)))
 
 pub returns-else-rest-top-2 : goal.returns-else-rest-top-2
-returns-else-rest-top-2 c =
+returns-else-rest-top-2 g c =
     let s = c in
     sym
-    (refusal_beyond (at (goal.at.returns-else-rest-top-2 c).Start) s.args.x s.args.word
+    (refusal_beyond g.P.Pattern.format s.args.x s.args.word
     (omega (arith, c.if-rest-top-2.false, c.rest-2.ensures, c.infinity_of-top.ensures)))

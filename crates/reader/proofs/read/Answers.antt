@@ -5,34 +5,37 @@ use mathlib.Core.Bool.{cond}
 use Prim.Native.Nat.{◌*◌}
 use native.Mathlib.Omega.{arith}
 use lib.ListN.{length-take, length-drop, get_or-replicate}
-use Rattle.recipe.specs.Table.{kind_number, answer_kind, is_input}
+use Rattle.recipe.specs.declared.Kind.TheVariants.{Double}
+use Rattle.recipe.specs.Table.{answer_kind, is_input}
 use Rattle.recipe.specs.Text.{most_steps, short, line_length, good, line_at, step_refusal}
 use Rattle.recipe.specs.Packed.{steps_in}
+use Rattle.reader.specs.Checks.{refusal_number}
 use Rattle.reader.proofs.Fields.{line_part}
 use Rattle.reader.proofs.Steps.{told_good, told_malformed}
+use Rattle.reader.proofs.Laws.{some_number}
 use Rattle.reader.proofs.Reading.{going_start, going_more, says_bad, says_malformed, says_refused, says_done}
-use Rattle.reader.proofs.read.Goals.{After-judge-refusal, In-Good}
+use Rattle.reader.proofs.read.Goals.{After-judge, In-Some}
 use Rattle.reader.proofs.read.Goals as goal
 
 -- the line read is a step
-read_step : (k : In-Good) → line_at short k.args.text.now (k.loop-i.i * line_length short) ≡ good k.in-Good.t
-read_step k = sym (line_part _ _) ∙ told_good _ k.in-Good.t (sym k.line_of.ensures ∙ k.in-Good.is)
+read_step : (k : In-Some) → line_at short k.args.text.now (k.loop-i.i * line_length short) ≡ good k.in-Some.t
+read_step k = sym (line_part _ _) ∙ told_good _ k.in-Some.t (sym k.line_of.ensures ∙ k.in-Some.is)
 
 -- and what it is refused for is what the definition says
-refusal : (j : After-judge-refusal) → j.judge-refusal.result ≡ step_refusal (steps_in j.loop-i.steps j.loop-i.i) j.in-Good.t
-refusal j = j.judge-refusal.ensures (steps_in j.loop-i.steps j.loop-i.i) j.loop-i.invariant.known
+refusal : (j : After-judge) → refusal_number j.judge.result ≡ step_refusal (steps_in j.loop-i.steps j.loop-i.i) j.in-Some.t
+refusal j = j.judge.ensures (steps_in j.loop-i.steps j.loop-i.i) j.loop-i.invariant.known
 
 -- ---- the needs
 
 pub returns-then-bad_length : goal.returns-then-bad_length
 returns-then-bad_length c =
     let s = c in
-    says_bad s.args.text.now s.args.steps.now c.refused.result (sym c.bad_length.ensures ∙ c.if-bad_length.true) c.refused.ensures
+    says_bad s.args.text.now s.args.steps.now _ (sym c.bad_length.ensures ∙ c.if-bad_length.true) (record { numbered = refl; placed = refl; none = refl })
 
 pub loop-i-init : goal.loop-i-init
 loop-i-init c =
     let s = c in
-    going_start s.args.text.now s.args.steps.now _ s.requires refl (λ k h. get_or-replicate most_steps k 1 0 h) (sym c.bad_length.ensures ∙ c.if-bad_length.false)
+    going_start s.args.text.now s.args.steps.now _ s.requires refl (λ k h. get_or-replicate most_steps k Double Double h) (sym c.bad_length.ensures ∙ c.if-bad_length.false)
 
 pub overflow_mul-at : goal.overflow_mul-at
 overflow_mul-at c = let l = c.loop-i in omega (arith, l.invariant.room)
@@ -46,26 +49,23 @@ slice_bounds-line_of-end c = let l = c.loop-i in omega (arith, l.invariant.whole
 pub line_of-requires : goal.line_of-requires
 line_of-requires c = let l = c.loop-i in simp (length-take, length-drop) (omega (arith, l.invariant.whole))
 
-pub overflow_cast-i : goal.overflow_cast-i
-overflow_cast-i c = let l = c.loop-i in omega (arith, l.invariant.room)
+pub overflow_cast-place : goal.overflow_cast-place
+overflow_cast-place c = let l = c.loop-i in omega (arith, l.invariant.room)
 
-pub returns-in-Malformed : goal.returns-in-Malformed
-returns-in-Malformed c =
+pub returns-in_default : goal.returns-in_default
+returns-in_default c =
     let l = c.loop-i in
-    let x = sym (line_part _ _) ∙ told_malformed _ (sym c.line_of.ensures ∙ c.in-Malformed.is) in
-    says_malformed c.args.text.now _ c.args.steps.now l.steps l.kinds l.inputs l.i l.invariant c.loop-i-test.true x c.refused-in-Malformed.result c.refused-in-Malformed.ensures
+    let x = sym (line_part _ _) ∙ told_malformed _ (sym c.line_of.ensures ∙ c.in_default.is) in
+    says_malformed c.args.text.now _ c.args.steps.now l.steps l.kinds l.inputs l.i l.invariant (omega arith) x _ (record { numbered = refl; placed = refl; none = refl })
 
-pub judge-refusal-requires : goal.judge-refusal-requires
-judge-refusal-requires c = c.row_of-row.ensures
+pub judge-requires : goal.judge-requires
+judge-requires c = c.row_of-row.ensures
 
-pub overflow_cast-i-then-refusal-ne0 : goal.overflow_cast-i-then-refusal-ne0
-overflow_cast-i-then-refusal-ne0 c = omega (arith, c.loop-i.invariant.room)
-
-pub returns-then-refusal-ne0 : goal.returns-then-refusal-ne0
-returns-then-refusal-ne0 c =
+pub returns-in-Some-judge : goal.returns-in-Some-judge
+returns-in-Some-judge c =
     let l = c.loop-i in
-    let j = (goal.at.returns-then-refusal-ne0 c).After-judge-refusal in
-    says_refused c.args.text.now _ c.args.steps.now l.steps l.kinds l.inputs l.i l.invariant c.loop-i-test.true c.in-Good.t (read_step (goal.at.returns-then-refusal-ne0 c).In-Good) _ (refusal j) c.if-refusal-ne0.true c.refused-then-refusal-ne0.result c.refused-then-refusal-ne0.ensures
+    let j = (goal.at.returns-in-Some-judge c).After-judge in
+    says_refused c.args.text.now _ c.args.steps.now l.steps l.kinds l.inputs l.i l.invariant (omega arith) c.in-Some.t (read_step (goal.at.returns-in-Some-judge c).In-Some) _ (ap refusal_number (sym c.in-Some-judge.is) ∙ refusal j) (some_number c.in-Some-judge.fault) _ (record { numbered = refl; placed = refl; none = refl })
 
 pub put_step-requires : goal.put_step-requires
 put_step-requires c = let l = c.loop-i in omega (arith, l.invariant.room, l.invariant.wide, l.invariant.long)
@@ -76,9 +76,6 @@ bounds-kinds-i c = omega (arith, c.loop-i.invariant.room)
 pub overflow_add-inputs : goal.overflow_add-inputs
 overflow_add-inputs c = let l = c.loop-i in omega (arith, l.invariant.few, l.invariant.room, c.input_count-counted.ensures.1)
 
-pub overflow_add-i : goal.overflow_add-i
-overflow_add-i c = omega (arith, c.loop-i.invariant.room)
-
 pub loop-i-preserved : goal.loop-i-preserved
 loop-i-preserved c =
     let l = c.loop-i in
@@ -86,20 +83,20 @@ loop-i-preserved c =
     let n = c.input_count-counted in
     let row = c.row_of-row.ensures in
     going_more c.args.text.now _ c.args.steps.now l.steps l.kinds l.inputs l.i l.invariant
-    c.loop-i-test.true
-    c.in-Good.t
-    (read_step (goal.at.loop-i-preserved c).In-Good)
-    (sym (refusal (goal.at.loop-i-preserved c).After-judge-refusal) ∙ c.if-refusal-ne0.false)
+    (omega arith)
+    c.in-Some.t
+    (read_step (goal.at.loop-i-preserved c).In-Some)
+    (sym (refusal (goal.at.loop-i-preserved c).After-judge) ∙ ap refusal_number c.in_default-judge.is)
     p.new.steps
     p.ensures.0
     p.ensures.1
     n.result
     (n.ensures.0 ∙ ap (λ r. cond (is_input r) 1 0) row)
     n.ensures.1
-    c.kind_number-kind.result
-    (c.kind_number-kind.ensures ∙ ap kind_number (c.answer_kind.ensures ∙ ap answer_kind row))
+    c.answer_kind-kind.result
+    (c.answer_kind-kind.ensures ∙ ap answer_kind row)
 
 pub returns : goal.returns
 returns c =
     let l = c.loop-i in
-    says_done c.args.text.now _ c.args.steps.now l.steps l.kinds l.inputs l.i l.invariant c.loop-i-test.false
+    says_done c.args.text.now _ c.args.steps.now l.steps l.kinds l.inputs l.i l.invariant (omega arith)

@@ -9,8 +9,7 @@ use native.Mathlib.Omega.{arith}
 use lib.Dec.{ltb, eqb}
 use lib.ListN.{length, get_or}
 use Rattle.hexadecimal.specs.Hex.{field_of}
-use Rattle.hexadecimal.specs.declared.Field.{Field}
-use Rattle.hexadecimal.specs.declared.Field.TheVariants.{Value, Malformed as Bad}
+use Rattle.std.specs.Prelude.{Option, Some, None}
 use Rattle.recipe.specs.declared.Step.{Step}
 use Rattle.recipe.specs.Table.{row_of, is_input}
 use Rattle.recipe.specs.Text.{most_steps, inputs_in}
@@ -26,10 +25,10 @@ use Rattle.semantics.proofs.Sound.Recipes.{Completes, words_complete}
 
 -- ---- a frame's refusals
 
-field_number : (x : Field) (more : ℕ → Frame) (n p : ℕ) → ((w : ℕ) → more w ≡ frame.refused n p → n ≡ 31) → on_field x more ≡ frame.refused n p → n ≡ 31
+field_number : (x : Option ℕ) (more : ℕ → Frame) (n p : ℕ) → ((w : ℕ) → more w ≡ frame.refused n p → n ≡ 31) → on_field x more ≡ frame.refused n p → n ≡ 31
 unfolding on_field
-field_number (Value w) more n p h e = h w e
-field_number Bad more n p h e = cc
+field_number (Some w) more n p h e = h w e
+field_number None more n p h e = cc
 
 words-number : (s : List ℕ) (m k : ℕ) (l : List ℕ) (n p : ℕ) → words_from s m k l ≡ frame.refused n p → n ≡ 31
 unfolding words_from

@@ -3,10 +3,10 @@ use mathlib.Core.Path.{◌∙◌, sym, ap}
 use Rattle.vectors.specs.Line.{line_of, response_to}
 use Rattle.vectors.proofs.respond.Goals as goal
 
-pub returns-in-Case : goal.returns-in-Case
+pub returns-in-Some : goal.returns-in-Some
 unfolding response_to
-returns-in-Case c = c.format.ensures ∙ ap line_of c.answer.ensures ∙ ap response_to (sym c.in-Case.is ∙ c.parse.ensures)
+returns-in-Some c = c.format.ensures ∙ ap line_of c.answer.ensures ∙ ap response_to (sym c.in-Some.is ∙ c.parse.ensures)
 
-pub returns-in-Malformed : goal.returns-in-Malformed
+pub returns-in-None : goal.returns-in-None
 unfolding response_to
-returns-in-Malformed c = c.format-in-Malformed.ensures ∙ ap line_of c.unknown.ensures ∙ ap response_to (sym c.in-Malformed.is ∙ c.parse.ensures)
+returns-in-None c = c.format-in-None.ensures ∙ ap line_of c.unknown.ensures ∙ ap response_to (sym c.in-None.is ∙ c.parse.ensures)

@@ -9,4 +9,4 @@ pub returns-then-holds_zero : goal.returns-then-holds_zero
 returns-then-holds_zero c = let a = c.args in tells_second a.t 1 20 _ _ (sym c.holds_zero.ensures ∙ c.if-holds_zero.true)
 
 pub returns : goal.returns
-returns c = let a = c.args in tells_rest a.t 1 20 _ _ (sym c.holds_zero.ensures ∙ c.if-holds_zero.false) _ _ (rw (sym c.is_infinite.ensures, sym c.is_infinite-2.ensures) (c.of_ends.ensures a.t of_a 20 [] refl (tells_none a.t _ _ c.no_reason.ensures.0 c.no_reason.ensures.1)))
+returns c = let a = c.args in tells_rest a.t 1 20 _ _ (sym c.holds_zero.ensures ∙ c.if-holds_zero.false) _ _ (c.of_infinite.ensures a.t of_a 20 [] refl (tells_none a.t))

@@ -1,113 +1,75 @@
--- `reason_of` meets its contract, an arm at a time: what the arm's function ensures, at the arm's opcode. Assumes nothing.
+-- `reason_of` meets its contract: in the arms whose two facts are that the rule refuses an end, by what the rule refuses. Assumes nothing.
 use mathlib.Core.Path.{◌≡◌, ◌∙◌}
-use mathlib.Core.Logic.{⊎_elim}
 use lib.IntN.{◌+ℤ◌, ◌-ℤ◌}
 use mir.Syntax.{w64}
 use mir.Val.{of_z, to_z}
 use Rattle.recipe.specs.declared.Step.{Step}
 use Rattle.semantics.specs.Range.{Range, low, high, least, most}
-use Rattle.semantics.specs.Cause.{remainder_causes, causes_of}
+use Rattle.semantics.specs.Cause.{causes_of}
 use Rattle.ranges.specs.Seen.{seen_range}
-use Rattle.explaining.specs.Reasons.{Tells}
-use Rattle.explaining.proofs.Reasons.{lround_told, whole_told, double_told, tells_other, at_opcode}
+use Rattle.explaining.proofs.Reasons.{lround_told, whole_told, double_told, at_opcode}
 use borrow.Author.Rules.{rules}
-use Rattle.explaining.proofs.causes.reason_of.Goals.{After-most-most2}
+use Rattle.explaining.proofs.causes.reason_of.Goals.{After-wholes-n}
 use Rattle.explaining.proofs.causes.reason_of.Goals as goal
 
 -- ---- what was fetched before the match: the step, its operands' ranges, and their ends
 
-abbrev step : After-most-most2 → Step
+abbrev step : After-wholes-n → Step
 step c = c.args.t
 
-abbrev a : After-most-most2 → Range
+abbrev a : After-wholes-n → Range
 a c = seen_range c.args.a
 
-abbrev b : After-most-most2 → Range
+abbrev b : After-wholes-n → Range
 b c = seen_range c.args.b
 
-low-is : (c : After-most-most2) → c.low-low.result ≡ low (a c)
-low-is c = c.low-low.ensures
+low-is : (c : After-wholes-n) → c.ends-x.result.low ≡ low (a c)
+low-is c = c.ends-x.ensures.0
 
-high_is : (c : After-most-most2) → c.high-high.result ≡ high (a c)
-high_is c = c.high-high.ensures
+high_is : (c : After-wholes-n) → c.ends-x.result.high ≡ high (a c)
+high_is c = c.ends-x.ensures.1
 
-low2-is : (c : After-most-most2) → c.low-low2.result ≡ low (b c)
-low2-is c = c.low-low2.ensures
+low2-is : (c : After-wholes-n) → c.ends-y.result.low ≡ low (b c)
+low2-is c = c.ends-y.ensures.0
 
-high2-is : (c : After-most-most2) → c.high-high2.result ≡ high (b c)
-high2-is c = c.high-high2.ensures
+high2-is : (c : After-wholes-n) → c.ends-y.result.high ≡ high (b c)
+high2-is c = c.ends-y.ensures.1
 
 -- a whole number is what its 64 bits stand for
-least-is : (c : After-most-most2) → to_z w64 (of_z w64 c.least-least.result) ≡ least (a c)
-least-is c = let i : to_z w64 (of_z w64 c.least-least.result) ≡ c.least-least.result = search rules in i ∙ c.least-least.ensures
+least-is : (c : After-wholes-n) → to_z w64 (of_z w64 c.wholes-m.result.low) ≡ least (a c)
+least-is c = let i : to_z w64 (of_z w64 c.wholes-m.result.low) ≡ c.wholes-m.result.low = search rules in i ∙ c.wholes-m.ensures.0
 
-most-is : (c : After-most-most2) → to_z w64 (of_z w64 c.most-most.result) ≡ most (a c)
-most-is c = let i : to_z w64 (of_z w64 c.most-most.result) ≡ c.most-most.result = search rules in i ∙ c.most-most.ensures
+most-is : (c : After-wholes-n) → to_z w64 (of_z w64 c.wholes-m.result.high) ≡ most (a c)
+most-is c = let i : to_z w64 (of_z w64 c.wholes-m.result.high) ≡ c.wholes-m.result.high = search rules in i ∙ c.wholes-m.ensures.1
 
-least2-is : (c : After-most-most2) → to_z w64 (of_z w64 c.least-least2.result) ≡ least (b c)
-least2-is c = let i : to_z w64 (of_z w64 c.least-least2.result) ≡ c.least-least2.result = search rules in i ∙ c.least-least2.ensures
+least2-is : (c : After-wholes-n) → to_z w64 (of_z w64 c.wholes-n.result.low) ≡ least (b c)
+least2-is c = let i : to_z w64 (of_z w64 c.wholes-n.result.low) ≡ c.wholes-n.result.low = search rules in i ∙ c.wholes-n.ensures.0
 
-most2-is : (c : After-most-most2) → to_z w64 (of_z w64 c.most-most2.result) ≡ most (b c)
-most2-is c = let i : to_z w64 (of_z w64 c.most-most2.result) ≡ c.most-most2.result = search rules in i ∙ c.most-most2.ensures
+most2-is : (c : After-wholes-n) → to_z w64 (of_z w64 c.wholes-n.result.high) ≡ most (b c)
+most2-is c = let i : to_z w64 (of_z w64 c.wholes-n.result.high) ≡ c.wholes-n.result.high = search rules in i ∙ c.wholes-n.ensures.1
 
--- ---- the needs
+-- ---- the arms whose facts are that the rule refuses an end
 
 pub returns-in-24 : goal.returns-in-24
 unfolding causes_of
 returns-in-24 c =
     let e = c in
-    at_opcode (step (goal.at.returns-in-24 c).After-most-most2) (a (goal.at.returns-in-24 c).After-most-most2) (b (goal.at.returns-in-24 c).After-most-most2) _ _ c.in-24.is (lround_told (step (goal.at.returns-in-24 c).After-most-most2) _ _ _ _ (a (goal.at.returns-in-24 c).After-most-most2) (rw (low-is (goal.at.returns-in-24 c).After-most-most2) at c.lround_of.ensures.0) (rw (high_is (goal.at.returns-in-24 c).After-most-most2) at c.lround_of-in-24.ensures.0) (c.of_outcomes.ensures 21))
-
-pub returns-in-34 : goal.returns-in-34
-unfolding causes_of
-returns-in-34 c =
-    let e = c in
-    let h : Tells (step (goal.at.returns-in-34 c).After-most-most2) (remainder_causes (a (goal.at.returns-in-34 c).After-most-most2) (b (goal.at.returns-in-34 c).After-most-most2)) _ _ = rw (low-is (goal.at.returns-in-34 c).After-most-most2, high_is (goal.at.returns-in-34 c).After-most-most2, low2-is (goal.at.returns-in-34 c).After-most-most2, high2-is (goal.at.returns-in-34 c).After-most-most2) at c.of_remainder.ensures in
-    ⊎_elim (λ k. at_opcode (step (goal.at.returns-in-34 c).After-most-most2) (a (goal.at.returns-in-34 c).After-most-most2) (b (goal.at.returns-in-34 c).After-most-most2) _ _ k h) (λ k. at_opcode (step (goal.at.returns-in-34 c).After-most-most2) (a (goal.at.returns-in-34 c).After-most-most2) (b (goal.at.returns-in-34 c).After-most-most2) _ _ k h) c.in-34.is
-
-pub returns-in-35 : goal.returns-in-35
-unfolding causes_of
-returns-in-35 c =
-    let e = c in
-    at_opcode (step (goal.at.returns-in-35 c).After-most-most2) (a (goal.at.returns-in-35 c).After-most-most2) (b (goal.at.returns-in-35 c).After-most-most2) _ _ c.in-35.is (rw (low-is (goal.at.returns-in-35 c).After-most-most2, high_is (goal.at.returns-in-35 c).After-most-most2, least2-is (goal.at.returns-in-35 c).After-most-most2, most2-is (goal.at.returns-in-35 c).After-most-most2) at c.of_ldexp.ensures)
+    at_opcode (step (goal.at.returns-in-24 c).After-wholes-n) (a (goal.at.returns-in-24 c).After-wholes-n) (b (goal.at.returns-in-24 c).After-wholes-n) _ _ c.in-24.is (lround_told (step (goal.at.returns-in-24 c).After-wholes-n) _ _ _ _ (a (goal.at.returns-in-24 c).After-wholes-n) (rw (low-is (goal.at.returns-in-24 c).After-wholes-n) at c.lround_of.ensures) (rw (high_is (goal.at.returns-in-24 c).After-wholes-n) at c.lround_of-in-24.ensures) (c.of_outcomes.ensures 21))
 
 pub returns-in-48 : goal.returns-in-48
 unfolding causes_of
 returns-in-48 c =
     let e = c in
-    at_opcode (step (goal.at.returns-in-48 c).After-most-most2) (a (goal.at.returns-in-48 c).After-most-most2) (b (goal.at.returns-in-48 c).After-most-most2) _ _ c.in-48.is (whole_told (step (goal.at.returns-in-48 c).After-most-most2) _ _ _ _ (least (a (goal.at.returns-in-48 c).After-most-most2) +ℤ least (b (goal.at.returns-in-48 c).After-most-most2)) (most (a (goal.at.returns-in-48 c).After-most-most2) +ℤ most (b (goal.at.returns-in-48 c).After-most-most2)) (rw (least-is (goal.at.returns-in-48 c).After-most-most2, least2-is (goal.at.returns-in-48 c).After-most-most2) at c.sum_of.ensures.0) (rw (most-is (goal.at.returns-in-48 c).After-most-most2, most2-is (goal.at.returns-in-48 c).After-most-most2) at c.sum_of-in-48.ensures.0) (c.of_outcomes-in-48.ensures 21))
+    at_opcode (step (goal.at.returns-in-48 c).After-wholes-n) (a (goal.at.returns-in-48 c).After-wholes-n) (b (goal.at.returns-in-48 c).After-wholes-n) _ _ c.in-48.is (whole_told (step (goal.at.returns-in-48 c).After-wholes-n) _ _ _ _ (least (a (goal.at.returns-in-48 c).After-wholes-n) +ℤ least (b (goal.at.returns-in-48 c).After-wholes-n)) (most (a (goal.at.returns-in-48 c).After-wholes-n) +ℤ most (b (goal.at.returns-in-48 c).After-wholes-n)) (rw (least-is (goal.at.returns-in-48 c).After-wholes-n, least2-is (goal.at.returns-in-48 c).After-wholes-n) at c.sum_of.ensures) (rw (most-is (goal.at.returns-in-48 c).After-wholes-n, most2-is (goal.at.returns-in-48 c).After-wholes-n) at c.sum_of-in-48.ensures) (c.of_outcomes-in-48.ensures 21))
 
 pub returns-in-49 : goal.returns-in-49
 unfolding causes_of
 returns-in-49 c =
     let e = c in
-    at_opcode (step (goal.at.returns-in-49 c).After-most-most2) (a (goal.at.returns-in-49 c).After-most-most2) (b (goal.at.returns-in-49 c).After-most-most2) _ _ c.in-49.is (whole_told (step (goal.at.returns-in-49 c).After-most-most2) _ _ _ _ (least (a (goal.at.returns-in-49 c).After-most-most2) -ℤ most (b (goal.at.returns-in-49 c).After-most-most2)) (most (a (goal.at.returns-in-49 c).After-most-most2) -ℤ least (b (goal.at.returns-in-49 c).After-most-most2)) (rw (least-is (goal.at.returns-in-49 c).After-most-most2, most2-is (goal.at.returns-in-49 c).After-most-most2) at c.difference_of.ensures.0) (rw (most-is (goal.at.returns-in-49 c).After-most-most2, least2-is (goal.at.returns-in-49 c).After-most-most2) at c.difference_of-in-49.ensures.0) (c.of_outcomes-in-49.ensures 21))
+    at_opcode (step (goal.at.returns-in-49 c).After-wholes-n) (a (goal.at.returns-in-49 c).After-wholes-n) (b (goal.at.returns-in-49 c).After-wholes-n) _ _ c.in-49.is (whole_told (step (goal.at.returns-in-49 c).After-wholes-n) _ _ _ _ (least (a (goal.at.returns-in-49 c).After-wholes-n) -ℤ most (b (goal.at.returns-in-49 c).After-wholes-n)) (most (a (goal.at.returns-in-49 c).After-wholes-n) -ℤ least (b (goal.at.returns-in-49 c).After-wholes-n)) (rw (least-is (goal.at.returns-in-49 c).After-wholes-n, most2-is (goal.at.returns-in-49 c).After-wholes-n) at c.difference_of.ensures) (rw (most-is (goal.at.returns-in-49 c).After-wholes-n, least2-is (goal.at.returns-in-49 c).After-wholes-n) at c.difference_of-in-49.ensures) (c.of_outcomes-in-49.ensures 21))
 
 pub returns-in-50 : goal.returns-in-50
 unfolding causes_of
 returns-in-50 c =
     let e = c in
-    at_opcode (step (goal.at.returns-in-50 c).After-most-most2) (a (goal.at.returns-in-50 c).After-most-most2) (b (goal.at.returns-in-50 c).After-most-most2) _ _ c.in-50.is (double_told (step (goal.at.returns-in-50 c).After-most-most2) _ _ _ _ (a (goal.at.returns-in-50 c).After-most-most2) (rw (least-is (goal.at.returns-in-50 c).After-most-most2) at c.double_of.ensures.0) (rw (most-is (goal.at.returns-in-50 c).After-most-most2) at c.double_of-in-50.ensures.0) (c.of_outcomes-in-50.ensures 22))
-
-pub returns-in-64 : goal.returns-in-64
-unfolding causes_of
-returns-in-64 c =
-    let e = c in
-    at_opcode (step (goal.at.returns-in-64 c).After-most-most2) (a (goal.at.returns-in-64 c).After-most-most2) (b (goal.at.returns-in-64 c).After-most-most2) _ _ c.in-64.is (rw (c.sum_ends.ensures.0, c.sum_ends.ensures.1, low-is (goal.at.returns-in-64 c).After-most-most2, high_is (goal.at.returns-in-64 c).After-most-most2, low2-is (goal.at.returns-in-64 c).After-most-most2, high2-is (goal.at.returns-in-64 c).After-most-most2) at c.of_arithmetic.ensures)
-
-pub returns-in-65 : goal.returns-in-65
-unfolding causes_of
-returns-in-65 c =
-    let e = c in
-    at_opcode (step (goal.at.returns-in-65 c).After-most-most2) (a (goal.at.returns-in-65 c).After-most-most2) (b (goal.at.returns-in-65 c).After-most-most2) _ _ c.in-65.is (rw (c.difference_ends.ensures.0, c.difference_ends.ensures.1, low-is (goal.at.returns-in-65 c).After-most-most2, high_is (goal.at.returns-in-65 c).After-most-most2, low2-is (goal.at.returns-in-65 c).After-most-most2, high2-is (goal.at.returns-in-65 c).After-most-most2) at c.of_arithmetic-in-65.ensures)
-
-pub returns-in-66 : goal.returns-in-66
-unfolding causes_of
-returns-in-66 c =
-    let e = c in
-    at_opcode (step (goal.at.returns-in-66 c).After-most-most2) (a (goal.at.returns-in-66 c).After-most-most2) (b (goal.at.returns-in-66 c).After-most-most2) _ _ c.in-66.is (rw (c.product_ends.ensures.0, c.product_ends.ensures.1, low-is (goal.at.returns-in-66 c).After-most-most2, high_is (goal.at.returns-in-66 c).After-most-most2, low2-is (goal.at.returns-in-66 c).After-most-most2, high2-is (goal.at.returns-in-66 c).After-most-most2) at c.of_arithmetic-in-66.ensures)
-
-pub returns-in_default : goal.returns-in_default
-returns-in_default c =
-    let e = c in
-    tells_other (step (goal.at.returns-in_default c).After-most-most2) (a (goal.at.returns-in_default c).After-most-most2) (b (goal.at.returns-in_default c).After-most-most2) _ _ c.no_reason.ensures.0 c.no_reason.ensures.1 c.in_default.in_default-own.rest
+    at_opcode (step (goal.at.returns-in-50 c).After-wholes-n) (a (goal.at.returns-in-50 c).After-wholes-n) (b (goal.at.returns-in-50 c).After-wholes-n) _ _ c.in-50.is (double_told (step (goal.at.returns-in-50 c).After-wholes-n) _ _ _ _ (a (goal.at.returns-in-50 c).After-wholes-n) (rw (least-is (goal.at.returns-in-50 c).After-wholes-n) at c.double_of.ensures) (rw (most-is (goal.at.returns-in-50 c).After-wholes-n) at c.double_of-in-50.ensures) (c.of_outcomes-in-50.ensures 22))

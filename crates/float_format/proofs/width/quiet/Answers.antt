@@ -1,15 +1,15 @@
 -- `quiet` meets its contract. Assumes nothing.
-use mathlib.Core.Path.{◌≡◌, ap}
+use mathlib.Core.Path.{◌≡◌, ap, ◌∙◌}
+use Prim.Native.Nat.{ℕ, ◌-◌, ◌^◌}
 use lib.Bits.{bit_or}
 use Rattle.float_format.specs.Format.{quieted}
-use Rattle.float_format.specs.Width.{format}
 use Rattle.float_format.proofs.Integral.{quieted_lt}
 use Rattle.float_format.proofs.width.quiet.Goals.{After-power}
 use Rattle.float_format.proofs.width.quiet.Goals as goal
 
-is : (c : After-power) → bit_or c.args.x c.power.result ≡ quieted (format c.args.fraction c.args.exponent) c.args.x
+is : (g : _) (c : After-power g) → bit_or c.args.x c.power.result ≡ quieted g.P.Pattern.format c.args.x
 unfolding quieted
-is c = ap (bit_or c.args.x) c.power.ensures
+is g c = ap (bit_or c.args.x) (c.power.ensures ∙ ap (λ (n : ℕ). 2 ^ (n - 1)) c.fraction_bits.ensures)
 
 pub returns : goal.returns
-returns c = (is (goal.at.returns c).After-power, rw (is (goal.at.returns c).After-power) (quieted_lt (format c.args.fraction c.args.exponent) c.args.x c.requires.0.valid c.requires.1))
+returns g c = (is g (goal.at.returns g c).After-power, rw (is g (goal.at.returns g c).After-power) (quieted_lt g.P.Pattern.format c.args.x g.met.P.Pattern.fits.valid c.requires))

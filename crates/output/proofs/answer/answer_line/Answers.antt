@@ -13,9 +13,6 @@ use Rattle.output.proofs.answer.answer_line.Goals as goal
 pub returns-then-a-ne0 : goal.returns-then-a-ne0
 returns-then-a-ne0 c = (c.refusal_line.ensures.0, c.refusal_line.ensures.1 ∙ sym (answer_refused c.args.a c.if-a-ne0.true), c.refusal_line.ensures.2)
 
-pub slice_bounds-write-end-2 : goal.slice_bounds-write-end-2
-slice_bounds-write-end-2 c = sym (length-take-le 2 c.args.out.now (omega arith))
-
 pub returns : goal.returns
 returns c =
     let s = c.args in

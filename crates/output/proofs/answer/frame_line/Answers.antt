@@ -13,6 +13,6 @@ pub returns : goal.returns
 returns c =
     let a = c.args in (
       c.answer_line.ensures.0,
-      λ l g. c.answer_line.ensures.1 ∙ ap answer_line (c.run_recipe-a.ensures.value_2 l g).0.0 ∙ sym (frame-short l a.line.now c.if-line-gt256.false),
+      λ l g. c.answer_line.ensures.1 ∙ ap answer_line (c.run_recipe-a.ensures.of_steps l g).0.0 ∙ sym (frame-short l a.line.now c.if-line-gt256.false),
       c.answer_line.ensures.2,
     )

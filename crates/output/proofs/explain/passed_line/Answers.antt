@@ -1,5 +1,5 @@
 -- `passed_line` meets its contract. Assumes nothing.
-use mathlib.Core.Path.{◌∙◌, sym, ap}
+use mathlib.Core.Path.{◌∙◌, ap}
 use Prim.Native.Nat.{ℕ}
 use native.Mathlib.Omega.{arith}
 use lib.ListN.{length}
@@ -8,9 +8,6 @@ use Rattle.hexadecimal.specs.Hex.{digits}
 use Rattle.hexadecimal.proofs.Digits.{length_digits}
 use Rattle.output.proofs.Written.{passed_written, passed_rest}
 use Rattle.output.proofs.explain.passed_line.Goals as goal
-
-pub slice_bounds-write-end-2 : goal.slice_bounds-write-end-2
-slice_bounds-write-end-2 c = sym (length-take-le 2 c.args.out.now (omega arith))
 
 pub returns : goal.returns
 returns c =

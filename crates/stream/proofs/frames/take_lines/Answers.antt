@@ -1,35 +1,29 @@
--- `take_lines` meets its contract: the rest of a line, or whole lines and then what the chunk has of the next. Assumes nothing.
-use mathlib.Core.Path.{◌≡◌, refl}
+-- `take_lines` meets its contract: whole lines, and then what the chunk has of the next. Assumes nothing.
+use mathlib.Core.Path.{◌≡◌, sym}
 use mathlib.Core.List.{[]}
 use native.Mathlib.Omega.{arith}
-use Rattle.programs.proofs.FrameLines.{kept_none, kept_nothing, handled_full, handled_rest}
+use lib.ListN.{length}
+use borrow.Author.Rules.{rules}
+use Rattle.std.specs.Prelude.{Some}
+use Rattle.programs.proofs.Pieces.{between_front}
+use Rattle.programs.proofs.FrameLines.{kept_none, kept_nothing, handled_rest}
+use Rattle.stream.proofs.frames.take_lines.Goals.{in-Some-eq0, in_default, in_default-2}
 use Rattle.stream.proofs.frames.take_lines.Goals as goal
-
-pub returns-then-lines : goal.returns-then-lines
-returns-then-lines c =
-    let a = c.args in
-    let r = c.answer_lines-lines.result in
-    let o = c.answer_lines-lines.ensures in (
-      o.1.moved c.if-lines.true,
-      o.1.within,
-      o.0,
-      λ l line g k f. rw (kept_none line a.buffer.now a.count k (omega arith)) (handled_full l a.steps.now a.chunk.now a.from r c.answer_lines-lines.new.out o.1 g a.buffer.now),
-      o.2,
-      refl,
-    )
 
 pub returns : goal.returns
 returns c =
     let a = c.args in
+    let s = a.chunk.now in
     let r = c.answer_lines-lines.result in
     let o = c.answer_lines-lines.ensures in
-    let z : a.count ≡ 0 = omega (arith, c.if-count-gt0.false) in (
-      c.requires.1,
+    let z : a.kept ≡ Some 0 = elim c.match-matches.branch [ in-Some-eq0 w ↦ search rules | in_default w ↦ search rules | in_default-2 w ↦ search rules ] in
+    let p = between_front s (length s) in (
+      c.requires.2,
       omega arith,
       o.0,
+      c.keep.ensures.0,
       λ l line g k f.
-          rw (kept_none line a.buffer.now a.count k z)
-          (handled_rest l a.steps.now a.chunk.now a.from r c.answer_lines-lines.new.out o.1 g c.keep-kept.result c.keep-kept.new.buffer c.if-lines.false (c.keep-kept.ensures.0 [] (kept_nothing a.buffer.now))),
+          rw (kept_none line a.buffer.now a.kept k z, sym p)
+          (handled_rest l a.steps.now s 0 r c.answer_lines-lines.new.out o.1 g c.keep.result c.keep.new.buffer (omega (arith, c.if-out-lines-lt-LINE.false)) (c.keep.ensures.1 [] (kept_nothing a.buffer.now))),
       o.2,
-      c.keep-kept.ensures.1,
     )

@@ -1,5 +1,4 @@
--- `take_recipe` meets its contract. The invariant is `Taken`: what stands in the buffer is the recipe's text so far. The measure is what is
--- left of the chunk. Assumes nothing.
+-- `take_recipe` meets its contract: at each byte, what stands in the buffer is the recipe's text so far. Assumes nothing.
 use mathlib.Core.Path.{◌∙◌}
 use native.Mathlib.Omega.{arith}
 use lib.ListN.{get_or, take}
@@ -10,44 +9,25 @@ use Rattle.stream.proofs.head.take_recipe.Goals as goal
 pub loop-i-init : goal.loop-i-init
 loop-i-init c =
     let a = c.args in
-    taken_none a.chunk.now a.from a.buffer.now a.count c.if-n-gt0.last (omega arith) c.requires.0 c.requires.1
+    taken_none a.chunk.now a.buffer.now a.count c.if-n-gt0.last c.requires.0 c.requires.1
     (elim c.if-n-gt0.branch [ then-n-gt0 w ↦ w.last-is ∙ last_at a.buffer.now a.count w.if-n-gt0.true (omega arith) | else-n-gt0 w ↦ w.last-is ∙ last_none a.buffer.now a.count (omega arith) ])
 
 pub returns-then-n-eq-LOOKED_AT : goal.returns-then-n-eq-LOOKED_AT
 returns-then-n-eq-LOOKED_AT c =
     let a = c.args in
-    let l = c.loop-i in (
-      omega (arith, l.invariant.after),
-      omega (arith, l.invariant.within),
-      l.invariant.few,
-      taken_endless a.buffer.now (take a.count a.buffer.now) a.chunk.now a.from l.buffer l.n l.last l.i l.invariant c.loop-i-test.true c.if-n-eq-LOOKED_AT.true,
-      l.invariant.rest,
-    )
+    let l = c.loop-i in
+    (omega arith, omega arith, l.invariant.few, taken_endless (take a.count a.buffer.now) a.chunk.now l.buffer l.n l.last l.i l.invariant (omega arith) c.if-n-eq-LOOKED_AT.true)
 
 pub returns-then-last-eq10 : goal.returns-then-last-eq10
 returns-then-last-eq10 c =
     let a = c.args in
-    let l = c.loop-i in (
-      omega (arith, l.invariant.after),
-      omega (arith, l.invariant.within),
-      l.invariant.few,
-      taken_empty a.buffer.now (take a.count a.buffer.now) a.chunk.now a.from l.buffer l.n l.last l.i l.invariant c.loop-i-test.true c.if-n-eq-LOOKED_AT.false c.if-b-eq10.true c.if-last-eq10.true,
-      l.invariant.rest,
-    )
-
-pub bounds-buffer-n-in-loop-i : goal.bounds-buffer-n-in-loop-i
-bounds-buffer-n-in-loop-i c = omega (arith, c.loop-i.invariant.size, c.loop-i.invariant.room, c.loop-i.invariant.few)
+    let l = c.loop-i in
+    (omega arith, omega arith, l.invariant.few, taken_empty (take a.count a.buffer.now) a.chunk.now l.buffer l.n l.last l.i l.invariant (omega arith) c.if-n-eq-LOOKED_AT.false c.if-b-eq10.true c.if-last-eq10.true)
 
 pub loop-i-preserved : goal.loop-i-preserved
 loop-i-preserved c =
     let a = c.args in
     let l = c.loop-i in
     let b = get_or a.chunk.now l.i 0 in
-    taken_more a.buffer.now (take a.count a.buffer.now) a.chunk.now a.from l.buffer l.n l.last l.i l.invariant c.loop-i-test.true c.if-n-eq-LOOKED_AT.false
+    taken_more (take a.count a.buffer.now) a.chunk.now l.buffer l.n l.last l.i l.invariant (omega arith) c.if-n-eq-LOOKED_AT.false
     (elim c.if-b-eq10.branch [ then-b-eq10+else-last-eq10 w ↦ not_after_feed b l.last w.if-b-eq10.true w.if-last-eq10.false | else-b-eq10 w ↦ not_feed b l.last w.if-b-eq10.false ])
-
-pub returns : goal.returns
-returns c =
-    let a = c.args in
-    let l = c.loop-i in
-    (omega (arith, l.invariant.within), l.invariant.within, l.invariant.few, l.invariant.same, l.invariant.rest)

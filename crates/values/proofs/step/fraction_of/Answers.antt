@@ -2,35 +2,39 @@
 use mathlib.Core.Path.{◌≡◌, sym, ap, ◌∙◌}
 use mathlib.Core.Bool.{false}
 use Prim.Native.Nat.{ℕ}
+use lib.Ieee as Ieee
 use Rattle.float_format.specs.Format.{binary64, is_nan}
 use Rattle.splitting.specs.Splitting.{modf_fraction}
-use Rattle.splitting.specs.Answer.{fraction_of_64, is_nan_of_64}
+use Rattle.splitting.specs.Answer.{fraction_of, is_nan_of}
 use Rattle.splitting.proofs.Laws.{fraction_number}
-use Rattle.semantics.specs.Value.{done}
+use Rattle.semantics.specs.Value.{done, double}
 use Rattle.semantics.proofs.Sound.Kept.{valid, rest_of, number_of}
 use Rattle.values.specs.Carried.{real}
-use Rattle.values.proofs.Floats.{held_real, held_is}
+use Rattle.values.proofs.Floats.{held_number, held_is}
 use borrow.Author.Rules.{rules}
-use Rattle.values.proofs.step.fraction_of.Goals.{In-Parts}
+use Rattle.values.proofs.step.fraction_of.Goals.{In-Ok}
 use Rattle.values.proofs.step.fraction_of.Goals as goal
 
 -- the case tells that x is no NaN, so that its fraction is none
-number : (c : In-Parts) → is_nan binary64 (modf_fraction binary64 c.args.x) ≡ false
+number : (c : In-Ok) → is_nan binary64 (modf_fraction binary64 c.args.x) ≡ false
 number c =
     let x = c.args.x in
-    let n : is_nan binary64 x ≡ false = sym c.modf.ensures.2 ∙ ap is_nan_of_64 c.in-Parts.is in
+    let n : is_nan binary64 x ≡ false = sym c.modf.ensures.2 ∙ ap is_nan_of c.in-Ok.is in
     number_of (modf_fraction binary64 x) (fraction_number binary64 x valid (rest_of x n))
 
-pub returns-in-Parts : goal.returns-in-Parts
-returns-in-Parts c =
-    let x = c.args.x in
-    let p = c.in-Parts.parts in
-    let e = sym (ap fraction_of_64 c.in-Parts.is) ∙ c.modf.ensures.1 in (
-      ap done (held_is c.in-Parts.parts.fraction (modf_fraction binary64 x) (search rules) e (number (goal.at.returns-in-Parts c).In-Parts)),
-      held_real c.in-Parts.parts.fraction (modf_fraction binary64 x) (search rules) e (number (goal.at.returns-in-Parts c).In-Parts),
-    )
+pub of_float-requires : goal.of_float-requires
+of_float-requires c =
+    let e = sym (ap (fraction_of Ieee.binary64 (λ (v : Ieee.Float). v) (λ (n : ℕ). n)) c.in-Ok.is) ∙ c.modf.ensures.1 in
+    held_number c.in-Ok.parts.fraction (modf_fraction binary64 c.args.x) (search rules) e (number (goal.at.of_float-requires c).In-Ok)
 
-pub returns-in-NotANumber : goal.returns-in-NotANumber
-returns-in-NotANumber c =
-    let e = sym (ap fraction_of_64 c.in-NotANumber.is) ∙ c.modf.ensures.1 in
-    (c.real_of.ensures.0 ∙ ap (λ (v : ℕ). done (real v)) e, c.real_of.ensures.1)
+pub returns-in-Ok : goal.returns-in-Ok
+returns-in-Ok c =
+    let x = c.args.x in
+    let e = sym (ap (fraction_of Ieee.binary64 (λ (v : Ieee.Float). v) (λ (n : ℕ). n)) c.in-Ok.is) ∙ c.modf.ensures.1 in
+    ap (λ (v : Ieee.Float). done (double (Ieee.to_bits Ieee.binary64 v))) c.of_float.ensures
+    ∙ ap done (held_is c.in-Ok.parts.fraction (modf_fraction binary64 x) (search rules) e (number (goal.at.returns-in-Ok c).In-Ok))
+
+pub returns-in-Err : goal.returns-in-Err
+returns-in-Err c =
+    let e = sym (ap (fraction_of Ieee.binary64 (λ (v : Ieee.Float). v) (λ (n : ℕ). n)) c.in-Err.is) ∙ c.modf.ensures.1 in
+    c.real_of.ensures ∙ ap (λ (v : ℕ). done (real v)) e

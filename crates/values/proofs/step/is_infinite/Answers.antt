@@ -5,4 +5,4 @@ use Rattle.float_format.proofs.Patterns.{infinite_is}
 use Rattle.values.proofs.step.is_infinite.Goals as goal
 
 pub returns : goal.returns
-returns c = sym (infinite_is binary64 c.args.x)
+returns c = rw (c.rest.ensures, c.infinity_of.ensures) (sym (infinite_is binary64 c.args.x))

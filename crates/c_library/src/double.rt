@@ -1,0 +1,37 @@
+// A double of C: a pattern of binary64 under a name of its own. What is generic is made anew for it, and put into the one function that calls it;
+// shared with the recipes' steps, it would be called, and its answer handed over in memory that a register of floats clears.
+ghost use Rattle.float_format.specs.Format.{binary64};
+ghost use Rattle.float_format.specs.Widths.{word64, wide64};
+
+use float_format::{Pattern, Wide};
+
+#[derive(Clone, Copy)]
+pub struct Double(pub u64);
+
+impl Pattern for Double {
+    ghost format = { binary64 };
+
+    ghost bits = { λ x. x.0 };
+
+    ghost fits = { word64 };
+
+    fn fraction_bits() -> u64 {
+        52
+    }
+
+    fn exponent_bits() -> u64 {
+        11
+    }
+
+    fn to_word(self) -> u64 {
+        self.0
+    }
+
+    fn from_word(word: u64) -> Double {
+        Double(word)
+    }
+}
+
+impl Wide for Double {
+    ghost wide = { wide64 };
+}

@@ -1,8 +1,0 @@
--- `Binary16::quiet` meets its contract. Assumes nothing.
-use borrow.Author.Rules.{rules}
-use Rattle.float_format.specs.Format.{quieted}
-use Rattle.float_format.proofs.Binary16.quiet.Goals as goal
-
-pub returns : goal.returns
-unfolding quieted
-returns c = search rules

@@ -1,8 +1,0 @@
--- `Binary64::is_nan` meets its contract. Assumes nothing.
-use mathlib.Core.Path.{sym}
-use Rattle.float_format.specs.Format.{binary64}
-use Rattle.float_format.proofs.Patterns.{nan_is}
-use Rattle.float_format.proofs.Binary64.is_nan.Goals as goal
-
-pub returns : goal.returns
-returns c = sym (nan_is binary64 c.args.x)

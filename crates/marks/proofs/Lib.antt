@@ -1,2 +1,0 @@
--- The laws of `marks`.
-pub mod Rule

@@ -1,6 +1,0 @@
--- `refused` meets its contract. Assumes nothing.
-use mathlib.Core.Path.{refl}
-use Rattle.reader.proofs.refused.Goals as goal
-
-pub returns : goal.returns
-returns c = record { numbered = refl; placed = refl; none = refl }

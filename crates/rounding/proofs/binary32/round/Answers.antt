@@ -1,9 +1,0 @@
--- `binary32::round` meets its contract. Assumes nothing.
-use native.Mathlib.Omega.{arith}
-use Rattle.float_format.specs.Format.{binary32}
-use Rattle.float_format.specs.declared.Direction.TheVariants.{HalfAway}
-use Rattle.rounding.proofs.Directions.{not_finite_is}
-use Rattle.rounding.proofs.binary32.round.Goals as goal
-
-pub returns : goal.returns
-returns c = not_finite_is binary32 HalfAway c.args.x c.not_finite.result (omega arith) c.not_finite.ensures.0

@@ -1,0 +1,35 @@
+-- `sheet_on_text` meets its contract: a text that is refused is so by the reader, and of any other the sheet is that of the words read. Assumes
+-- nothing.
+use mathlib.Core.Path.{refl, sym}
+use Prim.Native.Nat.{◌*◌}
+use native.Mathlib.Omega.{arith}
+use lib.ListN.{length}
+use lib.Seq.{length-take-le}
+use Rattle.std.proofs.lemmas.Result.{err_from_is_err_and}
+use Rattle.reader.proofs.Laws.{read_count}
+use Rattle.sheets.proofs.SheetCalls.{text_refused, text_sheet}
+use Rattle.sheets.proofs.sheet_on_text.Goals as goal
+
+pub returns-in_err-n : goal.returns-in_err-n
+returns-in_err-n c =
+    let a = c.args in
+    let p = err_from_is_err_and c.from_residual.result c.from_residual.ensures.1 in
+    let e = text_refused a.text.now (length a.bytes.now) c.read.new.steps c.in_err-n.field-0.0 c.in_err-n.ensures.1 in
+    rw (p.1, p.2, e) (refl, refl)
+
+pub overflow_mul-size : goal.overflow_mul-size
+overflow_mul-size c = omega (arith, (read_count c.args.text.now c.read.new.steps c.in_ok-n.n c.in_ok-n.ensures.1).1)
+
+pub slice_bounds-steps-end : goal.slice_bounds-steps-end
+slice_bounds-steps-end c = omega (arith, (read_count c.args.text.now c.read.new.steps c.in_ok-n.n c.in_ok-n.ensures.1).1, c.in_ok-n.ensures.0)
+
+pub slice_bounds-sheet_on_words-end : goal.slice_bounds-sheet_on_words-end
+slice_bounds-sheet_on_words-end c =
+    let w = c.read.new.steps in
+    sym (length-take-le (3 * c.in_ok-n.n) w (omega (arith, (read_count c.args.text.now w c.in_ok-n.n c.in_ok-n.ensures.1).1, c.in_ok-n.ensures.0)))
+
+pub returns : goal.returns
+returns c =
+    let a = c.args in
+    let e = text_sheet a.text.now (length a.bytes.now) c.read.new.steps c.in_ok-n.n c.in_ok-n.ensures.1 c.in_ok-n.ensures.0 in
+    rw (sym e) c.sheet_on_words.ensures

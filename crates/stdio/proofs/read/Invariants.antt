@@ -1,9 +1,0 @@
--- The measure is the turns left.
-use Rattle.std.proofs.Common.{◌≡◌, length}
-use Rattle.stdio.proofs.read.Given as goal
-
-abbrev pub invariant-loop-turns : goal.invariant-loop-turns
-invariant-loop-turns l = length l.buf ≡ length l.initial.buf
-
-abbrev pub decreases-loop-turns : goal.decreases-loop-turns
-decreases-loop-turns l = l.turns

@@ -1,9 +1,0 @@
--- The measure is the turns left.
-use Rattle.std.proofs.Common.{◌≤◌, length}
-use Rattle.stdio.proofs.write.Given as goal
-
-abbrev pub invariant-loop-done : goal.invariant-loop-done
-invariant-loop-done l = l.done ≤ length l.bytes
-
-abbrev pub decreases-loop-done : goal.decreases-loop-done
-decreases-loop-done l = l.turns

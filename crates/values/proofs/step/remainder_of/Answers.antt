@@ -1,5 +1,0 @@
--- `remainder_of` meets its contract. Assumes nothing.
-use Rattle.values.proofs.step.remainder_of.Goals as goal
-
-pub returns : goal.returns
-returns c = (rw (c.remainder-answer.ensures.0, c.remainder-answer.ensures.1) at c.divided.ensures.0, c.divided.ensures.1)

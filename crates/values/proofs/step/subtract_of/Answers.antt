@@ -1,5 +1,0 @@
--- `subtract_of` meets its contract. Assumes nothing.
-use Rattle.values.proofs.step.subtract_of.Goals as goal
-
-pub returns : goal.returns
-returns c = (rw c.difference.ensures at c.worked.ensures.0, c.worked.ensures.1)
