@@ -1,14 +1,15 @@
 // Formats of binary floating point: patterns as words of 64, 32 and 16 bits, with what all functions on them ask.
 #![tactic(auto)]
 
-ghost use Rattle.std.specs.Prelude.{◌≡◌, ℕ, ◌*◌, ◌<◌, None};
-ghost use Rattle.float_format.specs.Format.{Format, binary64, binary32, binary16, sign_bit, classify, class_number, is_nan, quieted, absolute, negated};
+ghost use Rattle.std.specs.Prelude.{◌≡◌, refl, ℕ, ◌*◌, ◌<◌, None};
+ghost use Rattle.float_format.specs.Format.{Format, binary64, binary32, binary16, sign_bit, classify, class_number, is_nan, quieted, absolute, negated, default_nan};
 ghost use Rattle.float_format.specs.Number.{rank};
 ghost use Rattle.float_format.specs.Width.{InWord, Wide};
 ghost use Rattle.float_format.specs.declared.Class.{Class};
 ghost use Rattle.float_format.specs.Refusals.{number_of, refusal_number};
 ghost use Rattle.float_format.specs.Widths.{word64, word32, word16, wide64, wide32};
 
+pub mod field_sizes;
 pub mod width;
 
 // What a pattern stands for. Document 01 numbers the classes 0 to 4, in this order.
@@ -55,6 +56,19 @@ pub trait Pattern: Copy {
     ghost bits: { Self → ℕ };
 
     // The sizes of the fraction and of the exponent field. Beside them stands the sign.
+    ghost FRACTION_SIZE: { ℕ };
+
+    const FRACTION_SIZE: u64;
+
+    ghost EXPONENT_SIZE: { ℕ };
+
+    const EXPONENT_SIZE: u64;
+
+    // The NaN that a function answers where it refuses and no operand is one.
+    ghost DEFAULT_NAN: { Self };
+
+    const DEFAULT_NAN: Self;
+
     fn fraction_bits() -> u64
         ensures { result ≡ format.fraction };
 
@@ -126,6 +140,10 @@ pub trait Pattern: Copy {
     }
 
     ghost fits: { InWord format };
+
+    ghost sizes: { (FRACTION_SIZE ≡ format.fraction) × (EXPONENT_SIZE ≡ format.exponent) };
+
+    ghost default: { bits DEFAULT_NAN ≡ default_nan format };
 }
 
 impl Pattern for u64 {
@@ -135,12 +153,28 @@ impl Pattern for u64 {
 
     ghost fits = { word64 };
 
+    ghost FRACTION_SIZE = { 52 };
+
+    const FRACTION_SIZE: u64 = 52;
+
+    ghost EXPONENT_SIZE = { 11 };
+
+    const EXPONENT_SIZE: u64 = 11;
+
+    ghost DEFAULT_NAN = { 9221120237041090560 };
+
+    const DEFAULT_NAN: u64 = 0x7ff8_0000_0000_0000;
+
+    ghost sizes = { (refl, refl) };
+
+    ghost default = { refl };
+
     fn fraction_bits() -> u64 {
-        52
+        Self::FRACTION_SIZE
     }
 
     fn exponent_bits() -> u64 {
-        11
+        Self::EXPONENT_SIZE
     }
 
     fn to_word(self) -> u64 {
@@ -159,12 +193,28 @@ impl Pattern for u32 {
 
     ghost fits = { word32 };
 
+    ghost FRACTION_SIZE = { 23 };
+
+    const FRACTION_SIZE: u64 = 23;
+
+    ghost EXPONENT_SIZE = { 8 };
+
+    const EXPONENT_SIZE: u64 = 8;
+
+    ghost DEFAULT_NAN = { 2143289344 };
+
+    const DEFAULT_NAN: u32 = 0x7fc0_0000;
+
+    ghost sizes = { (refl, refl) };
+
+    ghost default = { refl };
+
     fn fraction_bits() -> u64 {
-        23
+        Self::FRACTION_SIZE
     }
 
     fn exponent_bits() -> u64 {
-        8
+        Self::EXPONENT_SIZE
     }
 
     fn to_word(self) -> u64 {
@@ -183,12 +233,28 @@ impl Pattern for u16 {
 
     ghost fits = { word16 };
 
+    ghost FRACTION_SIZE = { 10 };
+
+    const FRACTION_SIZE: u64 = 10;
+
+    ghost EXPONENT_SIZE = { 5 };
+
+    const EXPONENT_SIZE: u64 = 5;
+
+    ghost DEFAULT_NAN = { 32256 };
+
+    const DEFAULT_NAN: u16 = 0x7e00;
+
+    ghost sizes = { (refl, refl) };
+
+    ghost default = { refl };
+
     fn fraction_bits() -> u64 {
-        10
+        Self::FRACTION_SIZE
     }
 
     fn exponent_bits() -> u64 {
-        5
+        Self::EXPONENT_SIZE
     }
 
     fn to_word(self) -> u64 {

@@ -1,13 +1,12 @@
-// A format's numbers, generic over the width: every size is worked out from the two that a `Pattern` has, so that the compiler folds all of
-// this. Not entry points: what takes a pattern as a word asks that it fits one. The parts of a word are taken by `&`: of a `%` by the sign's
-// weight the compiler makes a comparison and a choice.
+// A format's numbers, generic over the width: `field_sizes` works them out from the two sizes that a `Pattern` has, so that the compiler folds all of
+// this. Not entry points: what takes a pattern as a word asks that it fits one.
 ghost use Rattle.std.specs.Prelude.{◌≡◌, false, ◌-◌, ◌*◌, ◌%◌, ◌^◌, ◌<◌, ◌≤◌};
 ghost use Rattle.float_format.specs.Format.{sign_bit, top_field, infinity, unsigned, exponent_field, quieted, propagated, default_nan};
 ghost use Rattle.float_format.specs.Number.{encode, bias, leading_shift, rank};
 ghost use Rattle.float_format.specs.Rounding.{parts};
 ghost use Rattle.float_format.specs.declared.Direction.TheVariants.{HalfEven};
 
-use crate::Pattern;
+use crate::{Pattern, field_sizes};
 
 pub fn power(k: u64) -> u64
     requires { k < 64 }
@@ -23,68 +22,61 @@ pub fn unit<P: Pattern>() -> u64
     power(P::fraction_bits())
 }
 
-// One more than the largest exponent field.
-fn fields<P: Pattern>() -> u64
-    ensures { result ≡ 2 ^ P.format.exponent }
-{
-    power(P::exponent_bits())
-}
-
 pub fn sign_bit<P: Pattern>() -> u64
     ensures { result ≡ sign_bit P.format }
 {
-    power(P::exponent_bits() + P::fraction_bits())
+    field_sizes::sign_bit(P::fraction_bits(), P::exponent_bits())
 }
 
 pub fn top_field<P: Pattern>() -> u64
     ensures { result ≡ top_field P.format }
 {
-    fields::<P>() - 1
+    field_sizes::top_field(P::fraction_bits(), P::exponent_bits())
 }
 
 pub fn bias_of<P: Pattern>() -> u64
     ensures { result ≡ bias P.format }
 {
-    power(P::exponent_bits() - 1) - 1
+    field_sizes::bias_of(P::fraction_bits(), P::exponent_bits())
 }
 
 pub fn infinity_of<P: Pattern>() -> u64
     ensures { result ≡ infinity P.format }
 {
-    top_field::<P>() * unit::<P>()
+    field_sizes::infinity_of(P::fraction_bits(), P::exponent_bits())
 }
 
 pub fn default_nan<P: Pattern>() -> u64
     ensures { (result ≡ default_nan P.format) × (result < 2 * sign_bit P.format) }
 {
-    infinity_of::<P>() + power(P::fraction_bits() - 1)
+    P::DEFAULT_NAN.to_word()
 }
 
 // The pattern of 1.
 pub fn one<P: Pattern>() -> u64
     ensures { result ≡ bias P.format * 2 ^ P.format.fraction }
 {
-    bias_of::<P>() * unit::<P>()
+    field_sizes::one(P::fraction_bits(), P::exponent_bits())
 }
 
 pub fn field<P: Pattern>(x: u64) -> u64
     ensures { (result ≡ exponent_field P.format x) × (result ≤ top_field P.format) }
 {
-    (x >> P::fraction_bits()) & top_field::<P>()
+    field_sizes::field(P::fraction_bits(), P::exponent_bits(), x)
 }
 
 // x without its sign.
 pub fn rest<P: Pattern>(x: u64) -> u64
     ensures { result ≡ unsigned P.format x }
 {
-    x & (sign_bit::<P>() - 1)
+    field_sizes::rest(P::fraction_bits(), P::exponent_bits(), x)
 }
 
 // The zero of x's sign.
 pub fn signed_zero<P: Pattern>(x: u64) -> u64
     ensures { result ≡ x - x % sign_bit P.format }
 {
-    x - rest::<P>(x)
+    field_sizes::signed_zero(P::fraction_bits(), P::exponent_bits(), x)
 }
 
 // x with the top fraction bit set.
@@ -92,7 +84,7 @@ pub fn quiet<P: Pattern>(x: u64) -> u64
     requires { x < 2 * sign_bit P.format }
     ensures { (result ≡ quieted P.format x) × (result < 2 * sign_bit P.format) }
 {
-    x | power(P::fraction_bits() - 1)
+    field_sizes::quiet(P::fraction_bits(), P::exponent_bits(), x)
 }
 
 // A NaN quieted, or an infinity unchanged.
@@ -100,10 +92,7 @@ pub fn not_finite<P: Pattern>(x: u64) -> u64
     requires { (x < 2 * sign_bit P.format) × (exponent_field P.format x ≡ top_field P.format) }
     ensures { (result ≡ propagated P.format x) × (result < 2 * sign_bit P.format) }
 {
-    if x % unit::<P>() == 0 {
-        return x;
-    }
-    quiet::<P>(x)
+    field_sizes::not_finite(P::fraction_bits(), P::exponent_bits(), x)
 }
 
 // A whole number by which patterns compare as their numbers do, the two zeros equal.
@@ -111,10 +100,7 @@ pub fn rank<P: Pattern>(x: u64) -> u64
     requires { x < 2 * sign_bit P.format }
     ensures { (result ≡ rank P.format x) × (result < 2 * sign_bit P.format) }
 {
-    let sign = sign_bit::<P>();
-    // With a minus sign the number wraps below zero, and the sum brings it back.
-    let number = if x < sign { x } else { sign.wrapping_sub(x) };
-    sign.wrapping_add(number)
+    field_sizes::rank(P::fraction_bits(), P::exponent_bits(), x)
 }
 
 // How far the leading one of m stands below the place of a normal number's: the one way that a number comes to its leading one.
@@ -138,12 +124,7 @@ pub fn encoded<P: Pattern>(m: u64, scale: u64) -> u64
     requires { (m < 2 * 2 ^ P.format.fraction) × (scale < top_field P.format) }
     ensures { (result ≡ encode P.format.fraction (m * 2 ^ scale)) × (result < sign_bit P.format) }
 {
-    if m == 0 {
-        return 0;
-    }
-    let k = normal_shift::<P>(m);
-    let shift = if k < scale { k } else { scale };
-    (scale - shift) * unit::<P>() + m * power(shift)
+    field_sizes::encoded(P::fraction_bits(), P::exponent_bits(), m, scale)
 }
 
 // m / 2^d rounded, halves to even. Half of the unit is added before the shift, less one where the quotient is even, so that a tie

@@ -12,10 +12,10 @@ ghost use Rattle.float_format.specs.Refusals.{refusal_number};
 ghost use Rattle.remainder.specs.Remainder.{fmod, fmod_refusal};
 ghost use Rattle.remainder.specs.Shape.{Turn, Turns, top_of, inverse_of, scale_of, is_special, are_units, Ordinary, Left};
 
-use float_format::width::{
-    default_nan, encoded, infinity_of, normal_shift, quiet, rest, signed_zero, unit,
-};
-use float_format::{Pattern, Refusal, Wide, Word};
+use float_format::width::{encoded, normal_shift, rest, signed_zero, unit};
+use float_format::{Pattern, Wide, Word};
+
+pub mod field_sizes;
 
 // The remainder x - n * y exactly, for the integer n that brings its magnitude below y's, with x's sign; a zero has it too.
 //
@@ -132,24 +132,21 @@ fn remainder_by<P: Wide>(m: u64, n: u64, w: u64) -> u64
 pub fn scale<P: Pattern>(a: u64) -> u64
     ensures { result ≡ scale_of P.format.fraction a }
 {
-    (a >> P::fraction_bits()).saturating_sub(1)
+    field_sizes::scale(P::fraction_bits(), a)
 }
 
 // a stands for that number of units, times 2^scale: with no case for a subnormal, whose scale is 0.
 pub fn significand<P: Pattern>(a: u64) -> u64
     ensures { result ≡ a - scale_of P.format.fraction a * 2 ^ P.format.fraction }
 {
-    a - scale::<P>(a) * unit::<P>()
+    field_sizes::significand(P::fraction_bits(), a)
 }
 
 // Whether an operand is not finite, or y is zero.
 pub fn special<P: Pattern>(x: u64, y: u64) -> bool
     ensures { result ≡ is_special P.format x y }
 {
-    let infinity = infinity_of::<P>();
-    let a = rest::<P>(x);
-    let b = rest::<P>(y);
-    a >= infinity || b >= infinity || b == 0
+    field_sizes::special(P::fraction_bits(), P::exponent_bits(), x, y)
 }
 
 // What is answered there: the first NaN quieted, refusal 2 with the default NaN, or x where only y is infinite.
@@ -157,22 +154,8 @@ pub fn special_answer<P: Pattern>(x: u64, y: u64) -> Word<u64>
     requires { (x < 2 * sign_bit P.format) × (y < 2 * sign_bit P.format) × (is_special P.format x y ≡ true) }
     ensures { (result.word ≡ fmod P.format x y) × (refusal_number result.refusal ≡ fmod_refusal P.format x y) × (result.word < 2 * sign_bit P.format) }
 {
-    let infinity = infinity_of::<P>();
-    let a = rest::<P>(x);
-    let b = rest::<P>(y);
-    if a > infinity {
-        return Word::of(quiet::<P>(x));
-    }
-    if b > infinity {
-        return Word::of(quiet::<P>(y));
-    }
-    if a == infinity || b == 0 {
-        return Word {
-            word: default_nan::<P>(),
-            refusal: Some(Refusal::Undefined),
-        };
-    }
-    Word::of(x)
+    let nan = P::DEFAULT_NAN.to_word();
+    field_sizes::special_answer(P::fraction_bits(), P::exponent_bits(), nan, x, y)
 }
 
 // Whether both are subnormal or zero: their patterns without the signs are then their numbers of units.

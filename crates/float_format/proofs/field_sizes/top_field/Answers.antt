@@ -1,7 +1,7 @@
 -- `top_field_lem` meets its contract. Assumes nothing.
 use native.Mathlib.Omega.{arith}
 use lib.Pow.{pow_pos}
-use Rattle.float_format.proofs.width.top_field.Goals as goal
+use Rattle.float_format.proofs.field_sizes.top_field.Goals as goal
 
 pub overflow_sub-result : goal.overflow_sub-result
-overflow_sub-result g c = omega (arith, pow_pos g.P.Pattern.format.exponent)
+overflow_sub-result c = omega (arith, pow_pos c.args.exponent)
