@@ -142,10 +142,9 @@ fn one_part<P: Wide>(x: u64, e: u64) -> Patterns<u64>
     requires { (x < 2 * sign_bit P.format) × (e ≡ exponent_field P.format x) × (bias P.format ≤ e → bias P.format + P.format.fraction ≤ e) }
     ensures { (result.whole ≡ modf_whole P.format x) × (result.fraction ≡ modf_fraction P.format x) }
 {
-    let zero = signed_zero::<P>(x);
     if e < bias_of::<P>() {
         return Patterns {
-            whole: zero,
+            whole: signed_zero::<P>(x),
             fraction: x,
         };
     }
@@ -158,6 +157,7 @@ fn one_part<P: Wide>(x: u64, e: u64) -> Patterns<u64>
             };
         }
     }
+    let zero = signed_zero::<P>(x);
     Patterns {
         whole: x,
         fraction: zero,

@@ -9,7 +9,7 @@ use Rattle.float_format.specs.Width.{Finite}
 use Rattle.float_format.proofs.Sizes.{sizes, field_le}
 use Rattle.splitting.specs.Splitting.{modf_whole, modf_fraction}
 use Rattle.splitting.proofs.Fraction.{Answers, of_nan, of_infinity, below_one, no_fraction}
-use Rattle.splitting.proofs.one_part.Goals.{Start}
+use Rattle.splitting.proofs.one_part.Goals.{Start, then-e-top_field+else-x-unit-ne0, else-e-top_field}
 use Rattle.splitting.proofs.one_part.Goals as goal
 
 pair : {f : Format} {x w p : ℕ} → Answers f x w p → (w ≡ modf_whole f x) × (p ≡ modf_fraction f x)
@@ -23,7 +23,7 @@ pub returns-then-e-bias_of : goal.returns-then-e-bias_of
 returns-then-e-bias_of g c =
     let s = c in
     let l : s.args.e < bias g.P.Pattern.format = rw c.bias_of.ensures at c.if-e-bias_of.true in
-    pair (below_one g.P.Pattern.format s.args.x s.args.e (finite g (goal.at.returns-then-e-bias_of g c).Start (omega (arith, (sizes g.P.Pattern.format g.met.P.Pattern.fits).room.near))) c.signed_zero-zero.result c.signed_zero-zero.ensures l)
+    pair (below_one g.P.Pattern.format s.args.x s.args.e (finite g (goal.at.returns-then-e-bias_of g c).Start (omega (arith, (sizes g.P.Pattern.format g.met.P.Pattern.fits).room.near))) c.signed_zero.result c.signed_zero.ensures l)
 
 pub nonzero_rem-x : goal.nonzero_rem-x
 nonzero_rem-x g c = omega (arith, c.unit.ensures, pow_pos g.P.Pattern.format.fraction)
@@ -33,13 +33,13 @@ returns-then-x-unit-ne0 g c =
     let s = c in
     pair (of_nan g.P.Pattern.format s.args.x s.args.e s.requires.0 s.requires.1 (c.if-e-top_field.true ∙ c.top_field.ensures) c.quiet-nan.result c.quiet-nan.ensures.0 (rw c.unit.ensures at c.if-x-unit-ne0.true))
 
-pub returns-else-x-unit-ne0 : goal.returns-else-x-unit-ne0
-returns-else-x-unit-ne0 g c =
+pub returns : goal.returns
+returns g c =
     let s = c in
-    pair (of_infinity g.P.Pattern.format s.args.x s.args.e s.requires.0 s.requires.1 (c.if-e-top_field.true ∙ c.top_field.ensures) c.signed_zero-zero.result c.signed_zero-zero.ensures (rw c.unit.ensures at c.if-x-unit-ne0.false))
-
-pub returns-else-e-top_field : goal.returns-else-e-top_field
-returns-else-e-top_field g c =
-    let s = c in
-    let l : s.args.e < top_field g.P.Pattern.format = omega (arith, s.requires.1, field_le g.P.Pattern.format s.args.x, c.top_field.ensures, c.if-e-top_field.false) in
-    pair (no_fraction g.P.Pattern.format s.args.x s.args.e (finite g (goal.at.returns-else-e-top_field g c).Start l) c.signed_zero-zero.result c.signed_zero-zero.ensures (s.requires.2 (rw c.bias_of.ensures at c.if-e-bias_of.false)))
+    let z = c.signed_zero-zero in
+    pair (elim c.if-e-top_field.branch [
+      | then-e-top_field+else-x-unit-ne0 w ↦ of_infinity g.P.Pattern.format s.args.x s.args.e s.requires.0 s.requires.1 (w.if-e-top_field.true ∙ c.top_field.ensures) z.result z.ensures (rw w.unit.ensures at w.if-x-unit-ne0.false)
+      | else-e-top_field w ↦
+          let l : s.args.e < top_field g.P.Pattern.format = omega (arith, s.requires.1, field_le g.P.Pattern.format s.args.x, c.top_field.ensures, w.if-e-top_field.false) in
+          no_fraction g.P.Pattern.format s.args.x s.args.e (finite g (goal.at.returns g c).Start l) z.result z.ensures (s.requires.2 (rw c.bias_of.ensures at c.if-e-bias_of.false))
+    ])
