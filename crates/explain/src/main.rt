@@ -19,11 +19,11 @@ fn main(rt: HostRuntime) {
     let mut output = [0u8; LINE];
     let n = match stdio::read_full(&rt, &mut text) {
         Ok(n) => n,
-        Err(error) => {
+        Err(failed) => {
             stdio::fail(
                 &rt,
                 "explain: no explanation is written: cannot read standard input",
-                &error,
+                &failed.error,
             );
             return;
         }

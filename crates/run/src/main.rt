@@ -5,9 +5,13 @@
 // each with one line on standard error.
 //
 // What `answer` does between its system calls is a `Course` (`programs/specs/Course.antt`): it is in the loop's invariant, so that each chunk is
-// fed from its first byte to its last before the next is read, and the front of the output after each feed is known. By `any_chunks`, all of these
-// together are the output that the rules ask for. That `write` is handed this front is to be read below: it ensures nothing that could say so.
+// fed from its first byte to its last before the next is read, and the front of the output after each feed is known. `end` asks for it where the
+// loop is left, so that the stream that is finished has followed it to there. By `any_chunks`, all of these together are the output that the rules
+// ask for. That `write` is handed this front is to be read below: it ensures nothing that could say so.
 #![tactic(auto)]
+
+ghost use Rattle.std.specs.Prelude.{◌≤◌, length, take};
+ghost use Rattle.stream.specs.Held.{Ends, Follows};
 
 use std::io;
 use stream::Stream;
@@ -18,8 +22,17 @@ const CHUNK: usize = 8192;
 // The system call that failed, and why.
 #[derive(Drop)]
 enum Failure {
-    Read(io::Error),
+    Read(stdio::ReadFailed),
     Write(io::Error),
+}
+
+// Ends the course, after a refused recipe or at the end of the input, and answers how many bytes it puts out. The chunk and the place are there for
+// what is asked alone.
+fn end(stream: &mut Stream, chunk: &[u8], at: usize, out: &mut [u8]) -> usize
+    requires { Follows chunk.now at stream.old × (19 ≤ length out.old) }
+    ensures { (result ≤ length out.new) × Ends stream.old (take result out.new) }
+{
+    stream.finish(out)
 }
 
 // Reads standard input and answers it on standard output. A proved loop ends, and nothing says that the input does: there are more turns than any
@@ -47,7 +60,7 @@ fn answer(rt: &HostRuntime) -> Result<(), Failure> {
             }
         }
     }
-    let put = stream.finish(&mut output);
+    let put = end(&mut stream, &input[..n], at, &mut output);
     stdio::write_last(rt, &output[..put]).map_err(Failure::Write)
 }
 
@@ -60,10 +73,10 @@ fn main(rt: HostRuntime) {
     }
     match answer(&rt) {
         Ok(()) => {}
-        Err(Failure::Read(error)) => stdio::fail(
+        Err(Failure::Read(failed)) => stdio::fail(
             &rt,
             "run: answers are incomplete: cannot read standard input",
-            &error,
+            &failed.error,
         ),
         Err(Failure::Write(error)) => stdio::fail(
             &rt,

@@ -15,11 +15,11 @@ fn main(rt: HostRuntime) {
     let mut output = [0u8; LONGEST_SHEET];
     let n = match stdio::read_full(&rt, &mut text) {
         Ok(n) => n,
-        Err(error) => {
+        Err(failed) => {
             stdio::fail(
                 &rt,
                 "sheet: no sheet is written: cannot read standard input",
-                &error,
+                &failed.error,
             );
             return;
         }

@@ -4,7 +4,7 @@
 // What a call reads or writes no contract can say; these say which bytes of the buffer it may speak of.
 #![tactic(auto)]
 
-ghost use Rattle.std.specs.Prelude.{◌≡◌, ◌≤◌, IfOk, length, take};
+ghost use Rattle.std.specs.Prelude.{◌≡◌, ◌≤◌, IfErr, IfOk, length, take};
 
 use std::env::FillError;
 use std::fs::OpenOptions;
@@ -16,6 +16,13 @@ mod reason;
 
 use pause::pause;
 pub use reason::fail;
+
+// That a read failed, and why; and how many bytes it has put at the start of the buffer before it did.
+#[derive(Drop)]
+pub struct ReadFailed {
+    pub count: usize,
+    pub error: io::Error,
+}
 
 // Whether the call that has failed so is to be made again.
 fn is_to_be_repeated(rt: &HostRuntime, error: &io::Error) -> bool {
@@ -30,27 +37,36 @@ fn is_to_be_repeated(rt: &HostRuntime, error: &io::Error) -> bool {
 
 // Reads once from standard input, and answers how many bytes it has put at the start of the buffer: none at the end of the input. A proved loop
 // ends, and nothing says that signals do: there are more turns than any run uses up.
-pub fn read(rt: &HostRuntime, buf: &mut [u8]) -> io::Result<usize>
+pub fn read(rt: &HostRuntime, buf: &mut [u8]) -> Result<usize, ReadFailed>
     ensures counted { IfOk result (λ count. (count ≤ length buf.new) × (count ≡ length (take count buf.new))) }
+    ensures failed { IfErr result (λ e. (e.count ≤ length buf.new) × (e.count ≡ length (take e.count buf.new))) }
     ensures kept { length buf.new ≡ length buf.old }
 {
     for _ in 0..u64::MAX {
         match rt.stdin().read(buf) {
+            Ok(count) => return Ok(count),
             Err(error) if is_to_be_repeated(rt, &error) => {}
-            answer => return answer,
+            Err(error) => return Err(ReadFailed { count: 0, error }),
         }
     }
-    Err(io::Error::from(ErrorKind::TimedOut))
+    Err(ReadFailed {
+        count: 0,
+        error: io::Error::from(ErrorKind::TimedOut),
+    })
 }
 
 // Reads from standard input until the buffer is full or the input ends, and answers how many bytes stand at the start of the buffer.
-pub fn read_full(rt: &HostRuntime, buf: &mut [u8]) -> io::Result<usize>
+pub fn read_full(rt: &HostRuntime, buf: &mut [u8]) -> Result<usize, ReadFailed>
     ensures counted { IfOk result (λ count. (count ≤ length buf.new) × (count ≡ length (take count buf.new))) }
+    ensures failed { IfErr result (λ e. (e.count ≤ length buf.new) × (e.count ≡ length (take e.count buf.new))) }
     ensures kept { length buf.new ≡ length buf.old }
 {
     let mut done: usize = 0;
     while done < buf.len() {
-        let count = read(rt, &mut buf[done..])?;
+        let count = match read(rt, &mut buf[done..]) {
+            Ok(count) => count,
+            Err(ReadFailed { error, .. }) => return Err(ReadFailed { count: done, error }),
+        };
         if count == 0 {
             break;
         }

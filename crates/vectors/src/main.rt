@@ -49,11 +49,11 @@ fn run_some(rt: &HostRuntime) -> bool {
     let mut output = [0u8; LINES * answer::LINE];
     let count = match stdio::read_full(rt, &mut input) {
         Ok(count) => count,
-        Err(error) => {
+        Err(failed) => {
             stdio::fail(
                 rt,
                 "vectors: answers are incomplete: cannot read standard input",
-                &error,
+                &failed.error,
             );
             return false;
         }
