@@ -12,6 +12,8 @@ use lib.Seq.{take-suc, length-take-le, get_or-take, get_or-set_same}
 use borrow.Author.Tests.{eq-eqb, ne_eqb}
 use Rattle.semantics.proofs.Lists.{grow, get_d_any}
 use Rattle.programs.specs.Output.{parted, endless, looked_at, last_byte, part_after}
+use Rattle.programs.specs.Stage.{Untouched}
+use Rattle.programs.proofs.Untouched.{untouched_join, untouched_set}
 use Rattle.programs.proofs.Parts.{part_endless, part_empty, part_more}
 
 -- ---- no empty line ends here
@@ -32,15 +34,16 @@ last_at buffer n h k =
     let e : length (take n buffer) ≡ n = length-take-le n buffer k in
     rw e (get_d_any buffer (n - 1) 0 10 (omega arith) ∙ sym (get_or-take n buffer (n - 1) 10 (omega arith)))
 
--- ---- the state after the first i bytes of a chunk, of which n bytes stand in the buffer
+-- ---- the state after the first i bytes of a chunk, of which n bytes stand in the buffer; what stood in it after these still does
 
-pub record Taken (t chunk buffer : List ℕ) (n last i : ℕ) : Type 0 where
+pub record Taken (before t chunk buffer : List ℕ) (n last i : ℕ) : Type 0 where
   pub room : looked_at ≤ length buffer
   pub few : n ≤ looked_at
   pub ends : last ≡ last_byte (take n buffer)
   pub same : (s : List ℕ) → part_after t (take i chunk ++ s) ≡ part_after (take n buffer) s
+  pub rest : Untouched n before buffer
 
-module _ (t chunk buffer : List ℕ) (n last i : ℕ) (g : Taken t chunk buffer n last i) (k : i < length chunk) where
+module _ (before t chunk buffer : List ℕ) (n last i : ℕ) (g : Taken before t chunk buffer n last i) (k : i < length chunk) where
   next : (s : List ℕ) → part_after t (take (i + 1) chunk ++ s) ≡ part_after (take n buffer) (get_or chunk i 0 ∷ s)
   next s =
       let e : take (i + 1) chunk ≡ take i chunk ++ (get_or chunk i 0 ∷ []) = rw (add-one i) (take-suc chunk i 0 k) in
@@ -62,7 +65,7 @@ module _ (t chunk buffer : List ℕ) (n last i : ℕ) (g : Taken t chunk buffer 
     taken_empty e f s = next s ∙ part_empty (take n buffer) s (get_or chunk i 0) fits e (sym g.ends ∙ f)
 
     pub taken_more : (eqb (get_or chunk i 0) 10 && eqb last 10) ≡ false
-        → Taken t chunk (set buffer n (get_or chunk i 0)) (n + 1) (get_or chunk i 0) (i + 1)
+        → Taken before t chunk (set buffer n (get_or chunk i 0)) (n + 1) (get_or chunk i 0) (i + 1)
     taken_more e =
         let r = g.room in
         let f = g.few in
@@ -77,8 +80,9 @@ module _ (t chunk buffer : List ℕ) (n last i : ℕ) (g : Taken t chunk buffer 
               next s
               ∙ part_more (take n buffer) s b fits (ap (λ (x : ℕ). eqb b 10 && eqb x 10) (sym g.ends) ∙ e)
               ∙ ap (λ (x : List ℕ). part_after x s) (sym (grow buffer n b p));
+          rest = untouched_join before buffer (set buffer n b) n (n + 1) (n + 1) (omega arith) (omega arith) g.rest (untouched_set buffer n b (n + 1) (omega arith));
         }
 
 pub taken_none : (chunk buffer : List ℕ) (n last : ℕ) → looked_at ≤ length buffer → n ≤ looked_at → last ≡ last_byte (take n buffer)
-    → Taken (take n buffer) chunk buffer n last 0
-taken_none chunk buffer n last r f e = record { room = r; few = f; ends = e; same = λ s. refl }
+    → Taken buffer (take n buffer) chunk buffer n last 0
+taken_none chunk buffer n last r f e = record { room = r; few = f; ends = e; same = λ s. refl; rest = refl }

@@ -26,7 +26,8 @@ fn line_end(s: &[u8]) -> Option<usize>
 // Adds a part to what is kept of a line, and answers how many bytes are kept then.
 fn keep(buffer: &mut [u8], kept: Option<usize>, part: &[u8]) -> Option<usize>
     requires { (256 ≤ length buffer.old) × (kept_bytes kept ≤ 256) }
-    ensures { (kept_bytes result ≤ 256) × ((line : List ℕ) → Kept line kept buffer.old → Kept (line ++ part.now) result buffer.new) }
+    ensures { (kept_bytes result ≤ 256) × ((line : List ℕ) → Kept line kept buffer.old → Kept (line ++ part.now) result buffer.new)
+        × Untouched 256 buffer.old buffer.new }
 {
     let n = kept?;
     if part.len() > 256 - n {
@@ -83,7 +84,7 @@ fn take_rest(
         × (kept_bytes result.kept ≤ 256) × (
         (l : List Step) (line : List ℕ) → Holds l steps.now → Kept line kept buffer.old → NoFeed line →
         Handled l line (take result.progress.at chunk.now) (take result.progress.put out.new) result.kept buffer.new)
-        × Untouched result.progress.put out.old out.new }
+        × Untouched result.progress.put out.old out.new × Untouched 256 buffer.old buffer.new }
 {
     let end = match line_end(chunk) {
         Some(end) => end,
@@ -119,7 +120,7 @@ pub(crate) fn take_lines(
         × (kept_bytes result.kept ≤ 256) × (
         (l : List Step) (line : List ℕ) → Holds l steps.now → Kept line kept buffer.old → NoFeed line →
         Handled l line (take result.progress.at chunk.now) (take result.progress.put out.new) result.kept buffer.new)
-        × Untouched result.progress.put out.old out.new }
+        × Untouched result.progress.put out.old out.new × Untouched 256 buffer.old buffer.new }
 {
     if !matches!(kept, Some(0)) {
         return take_rest(steps, buffer, kept, chunk, out);

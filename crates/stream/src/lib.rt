@@ -5,6 +5,7 @@
 #![tactic(auto)]
 
 ghost use Rattle.std.specs.Prelude.{◌≡◌, List, [], ◌++◌, ℕ, ◌*◌, ◌≤◌, ◌<◌, length, take};
+ghost use Rattle.recipe.specs.Fault.{number_of};
 ghost use Rattle.recipe.specs.Text.{most_steps};
 ghost use Rattle.programs.specs.Output.{looked_at, on_recipe, part_after, parted};
 ghost use Rattle.programs.specs.Stage.{heading, recipe_bytes, step_words, line_bytes, Untouched};
@@ -13,12 +14,19 @@ use frames::{kept_line, take_lines};
 use head::take_recipe;
 use output::refusal_line;
 use programs::{End, LOOKED_AT, Progress, Stage};
-use recipe::MOST_WORDS;
+use recipe::{Fault, MOST_WORDS};
 
 mod frames;
 mod head;
 
 pub use frames::answer_lines;
+
+// The number of what a text is turned down for.
+fn fault_number(fault: Fault) -> u64
+    ensures { result ≡ number_of fault }
+{
+    fault as u64
+}
 
 // The run program's input so far: the bytes of a recipe or a line that is not at its end yet, and the steps of the recipe once it is read.
 #[derive(Drop)]
@@ -68,7 +76,7 @@ impl Stream {
             }
             Err(refusal) => {
                 self.stage = Stage::Done;
-                refusal_line(u64::from(refusal.fault), u64::from(refusal.place.0), out)
+                refusal_line(fault_number(refusal.fault), u64::from(refusal.place.0), out)
             }
         }
     }

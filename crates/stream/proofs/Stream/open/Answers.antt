@@ -35,5 +35,5 @@ returns-in-Err c =
     let w = c.read.new.steps in
     let e = c.in-Err.ensures.1 in
     let z = some_number c.in-Err.refusal.fault in
-    let x = rw (c.from.ensures, c.from-in-Err.ensures) at c.refusal_line.ensures.1 ∙ sym (read_refused t r w e (λ l. []) z) in
+    let x = rw (c.fault_number.ensures, c.from.ensures) at c.refusal_line.ensures.1 ∙ sym (read_refused t r w e (λ l. []) z) in
     (c.refusal_line.ensures.0, x, λ u piece f. fed_refused u piece a.n a.self.now.buffer w Empty c.requires.0 f r _ refl e x z, c.refusal_line.ensures.2, refl)

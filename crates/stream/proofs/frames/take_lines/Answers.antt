@@ -26,4 +26,5 @@ returns c =
           rw (kept_none line a.buffer.now a.kept k z, sym p)
           (handled_rest l a.steps.now s 0 r c.answer_lines-lines.new.out o.1 g c.keep.result c.keep.new.buffer (omega (arith, c.if-out-lines-lt-LINE.false)) (c.keep.ensures.1 [] (kept_nothing a.buffer.now))),
       o.2,
+      c.keep.ensures.2,
     )

@@ -25,6 +25,7 @@ returns-in-None c =
           rw (sym p)
           (handled_part l line s 0 e d c.keep.result c.keep.new.buffer (rw w (c.keep.ensures.1 line k)) f),
       refl,
+      c.keep.ensures.2,
     )
 
 pub returns : goal.returns
@@ -44,4 +45,5 @@ returns c =
           (handled_line l line s 0 e d.0 c.keep-whole.new.buffer _ d.1
           (rw p (c.kept_line-put.ensures.1 l (line ++ take e s) g (c.keep-whole.ensures.1 line k)))),
       c.kept_line-put.ensures.2,
+      c.keep-whole.ensures.2,
     )

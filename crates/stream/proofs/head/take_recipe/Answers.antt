@@ -16,18 +16,18 @@ pub returns-then-n-eq-LOOKED_AT : goal.returns-then-n-eq-LOOKED_AT
 returns-then-n-eq-LOOKED_AT c =
     let a = c.args in
     let l = c.loop-i in
-    (omega arith, omega arith, l.invariant.few, taken_endless (take a.count a.buffer.now) a.chunk.now l.buffer l.n l.last l.i l.invariant (omega arith) c.if-n-eq-LOOKED_AT.true)
+    (omega arith, omega arith, l.invariant.few, taken_endless a.buffer.now (take a.count a.buffer.now) a.chunk.now l.buffer l.n l.last l.i l.invariant (omega arith) c.if-n-eq-LOOKED_AT.true, l.invariant.rest)
 
 pub returns-then-last-eq10 : goal.returns-then-last-eq10
 returns-then-last-eq10 c =
     let a = c.args in
     let l = c.loop-i in
-    (omega arith, omega arith, l.invariant.few, taken_empty (take a.count a.buffer.now) a.chunk.now l.buffer l.n l.last l.i l.invariant (omega arith) c.if-n-eq-LOOKED_AT.false c.if-b-eq10.true c.if-last-eq10.true)
+    (omega arith, omega arith, l.invariant.few, taken_empty a.buffer.now (take a.count a.buffer.now) a.chunk.now l.buffer l.n l.last l.i l.invariant (omega arith) c.if-n-eq-LOOKED_AT.false c.if-b-eq10.true c.if-last-eq10.true, l.invariant.rest)
 
 pub loop-i-preserved : goal.loop-i-preserved
 loop-i-preserved c =
     let a = c.args in
     let l = c.loop-i in
     let b = get_or a.chunk.now l.i 0 in
-    taken_more (take a.count a.buffer.now) a.chunk.now l.buffer l.n l.last l.i l.invariant (omega arith) c.if-n-eq-LOOKED_AT.false
+    taken_more a.buffer.now (take a.count a.buffer.now) a.chunk.now l.buffer l.n l.last l.i l.invariant (omega arith) c.if-n-eq-LOOKED_AT.false
     (elim c.if-b-eq10.branch [ then-b-eq10+else-last-eq10 w ↦ not_after_feed b l.last w.if-b-eq10.true w.if-last-eq10.false | else-b-eq10 w ↦ not_feed b l.last w.if-b-eq10.false ])
