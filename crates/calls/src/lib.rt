@@ -37,7 +37,7 @@ impl Refused {
         ensures { result ≡ number_of self }
     {
         match self {
-            Refused::Text(refusal) => u64::from(refusal.fault),
+            Refused::Text(refusal) => refusal.fault as u64,
             Refused::Words => 10,
             Refused::Inputs => 17,
             Refused::Step(why, _) => u64::from(why),

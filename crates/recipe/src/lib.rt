@@ -1,9 +1,6 @@
-// Recipes: what a step is, and what the reader answers (document 01, "Recipe text"). Types alone: `specs/` defines what they mean, `proofs/`
+// Recipes: what a step is, and why a text is turned down (document 01, "Recipe text"). Types alone: `specs/` defines what they mean, `proofs/`
 // shows what holds of that, and the functions stand in the crates above.
 #![tactic(auto)]
-
-ghost use Rattle.std.specs.Prelude.{◌≡◌};
-ghost use Rattle.recipe.specs.Fault.{number_of};
 
 // The most steps that a recipe has.
 pub const MOST_STEPS: usize = 128;
@@ -64,14 +61,6 @@ pub enum Fault {
     TooManyInputs = 17,
 }
 
-impl From<Fault> for u64 {
-    ghost from_gives = { λ fault number. number ≡ number_of fault };
-
-    fn from(fault: Fault) -> u64 {
-        fault as u64
-    }
-}
-
 // A text's first fault and the step where it is; of a wrong length, step 0.
 #[derive(Clone, Copy)]
 pub struct Refusal {
@@ -79,8 +68,8 @@ pub struct Refusal {
     pub place: StepNumber,
 }
 
-// What the reader answers: how many steps it read. Or the number of a refusal, 10 to 17, and its place, a step or 0 of refusal 10, with
-// `count` 0; `refusal` is 0 where there is none.
+// What the definitions say of a reading (`specs/Answer.antt`); no code makes one. How many steps were read. Or the number of a refusal, 10 to
+// 17, and its place, a step or 0 of refusal 10, with `count` 0; `refusal` is 0 where there is none.
 #[derive(Drop)]
 pub struct Reading {
     pub count: usize,
