@@ -22,7 +22,7 @@ ghost use Rattle.semantics.specs.Promise.{Keeps};
 ghost use Rattle.programs.specs.Batch.{batch_of};
 ghost use Rattle.programs.specs.Batch as batch;
 
-use answers::{
+pub use answers::{
     Frexp32, Frexp64, Patterns32, Patterns64, Remquo32, Remquo64, Whole, Word16, Word32, Word64,
 };
 use double::Double;
