@@ -109,18 +109,18 @@ module _ (w s : List ℕ) (room : ℕ) (b : bad_words (length w) ≡ false) (n :
         sized : length s ≡ inputs_in (steps_in w n) * 16
         sized = k ∙ rw em
 
-        -- refusal 31
-        pub run_malformed : (why : Refused) → Read (words_from s m 0 []) (Err why) → run_words w s room ≡ refused (number_of why) (place_of why)
-        run_malformed why i =
+        -- refusal 31, of as many words as there are inputs
+        pub run_malformed : (j : ℕ) (why : Refused) → Read (words_from s j 0 []) (Err why) → j ≡ m → run_words w s room ≡ refused (number_of why) (place_of why)
+        run_malformed j why i ej =
             as_steps
-            ∙ law.call_malformed (λ ws. carried_from (steps_in w n) 0 0 ws []) (steps_in w n) s room roomy sized (number_of why) (place_of why) (rw (sym em) (read_malformed (words_from s m 0 []) why i))
+            ∙ law.call_malformed (λ ws. carried_from (steps_in w n) 0 0 ws []) (steps_in w n) s room roomy sized (number_of why) (place_of why) (rw (sym (ej ∙ em)) (read_malformed (words_from s j 0 []) why i))
 
-        module _ (inputs : List ℕ) (i : Read (words_from s m 0 []) (Ok inputs)) where
-          held : Held (words_from s m 0 []) inputs
-          held = read_held (words_from s m 0 []) inputs i
+        module _ (j : ℕ) (inputs : List ℕ) (i : Read (words_from s j 0 []) (Ok inputs)) (ej : j ≡ m) where
+          held : Held (words_from s j 0 []) inputs
+          held = read_held (words_from s j 0 []) inputs i
 
           there : words_from s (inputs_in (steps_in w n)) 0 [] ≡ words held.list
-          there = rw (sym em) held.is
+          there = rw (sym (ej ∙ em)) held.is
 
           -- refusal 32
           pub run_outside : (why : Refused) → ((ws : List ℕ) → Same inputs ws → ranged (steps_in w n) 0 0 ws ≡ frame.refused (number_of why) (place_of why)) → run_words w s room ≡ refused (number_of why) (place_of why)

@@ -39,7 +39,7 @@ returns-in_err-inputs c =
     let w = c.in-Some.recipe.words.now in
     let e = c.in-Some.ensures.0 in
     let p = err_from_is_err_and c.from_residual.result c.from_residual.ensures.1 in
-    rw (← e, p.1, p.2) (rw (run_malformed w a.frame.now (length a.words.now) (rw e c.in-Some.ensures.1) _ refl _ c.input_total-m.ensures.0 c.if-m-gt16.false (omega arith) c.if-frame-m.false _ c.in_err-inputs.ensures) (refl, refl))
+    rw (← e, p.1, p.2) (rw (run_malformed w a.frame.now (length a.words.now) (rw e c.in-Some.ensures.1) _ refl _ c.input_total-m.ensures.0 c.if-m-gt16.false (omega arith) c.if-frame-m.false _ _ c.in_err-inputs.ensures (omega arith)) (refl, refl))
 
 pub returns-in_err-check_ranges : goal.returns-in_err-check_ranges
 returns-in_err-check_ranges c =
@@ -48,12 +48,12 @@ returns-in_err-check_ranges c =
     let e = c.in-Some.ensures.0 in
     let p = err_from_is_err_and c.from_residual-in_err-check_ranges.result c.from_residual-in_err-check_ranges.ensures.1 in
     rw (← e, p.1, p.2)
-    (rw (run_outside w a.frame.now (length a.words.now) (rw e c.in-Some.ensures.1) _ refl _ c.input_total-m.ensures.0 c.if-m-gt16.false (omega arith) c.if-frame-m.false _ c.in_ok-inputs.ensures c.in_err-check_ranges.field-0.0 c.in_err-check_ranges.ensures) (refl, refl))
+    (rw (run_outside w a.frame.now (length a.words.now) (rw e c.in-Some.ensures.1) _ refl _ c.input_total-m.ensures.0 c.if-m-gt16.false (omega arith) c.if-frame-m.false _ _ c.in_ok-inputs.ensures (omega arith) c.in_err-check_ranges.field-0.0 c.in_err-check_ranges.ensures) (refl, refl))
 
 pub returns : goal.returns
 returns c =
     let a = c.args in
     let w = c.in-Some.recipe.words.now in
     let e = c.in-Some.ensures.0 in
-    let x = run_reached w a.frame.now (length a.words.now) (rw e c.in-Some.ensures.1) _ refl _ c.input_total-m.ensures.0 c.if-m-gt16.false (omega arith) c.if-frame-m.false _ c.in_ok-inputs.ensures c.in_ok-check_ranges.ensures in
+    let x = run_reached w a.frame.now (length a.words.now) (rw e c.in-Some.ensures.1) _ refl _ c.input_total-m.ensures.0 c.if-m-gt16.false (omega arith) c.if-frame-m.false _ _ c.in_ok-inputs.ensures (omega arith) c.in_ok-check_ranges.ensures in
     rw (← e, x.is) (c.evaluate.ensures x.list x.same)
