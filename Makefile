@@ -44,7 +44,7 @@ $(LIBRARY): $(SOURCES)
 	@mkdir -p build
 	objcopy --set-section-alignment '.text.*=64' crates/c_library/out/libc_library.a $@
 
-# Sums and products alone, in whole numbers and on floats, for tests and the benchmark. It is not installed.
+# Sums and products, in whole numbers and on floats, and fmod at a width of a caller's own, for tests and the benchmark. It is not installed.
 $(CROSS_CHECK): $(SOURCES)
 	@$(call need,rt,prove and compile the crates (the Rattle toolchain))
 	@$(call need,objcopy,align the archive's functions (binutils))

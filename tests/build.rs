@@ -1,5 +1,5 @@
 //! Links libestrenwind.a from the folder in ESTRENWIND_LIB_DIR, or from ../build. The archive
-//! libcross_check.a beside it is linked by the one test that needs it.
+//! libcross_check.a beside it is linked by the tests that need it.
 
 use std::env;
 use std::path::PathBuf;

@@ -4,7 +4,7 @@ ghost use Rattle.std.specs.Prelude.{refl};
 ghost use Rattle.float_format.specs.Format.{binary64};
 ghost use Rattle.float_format.specs.Widths.{word64, wide64};
 
-use float_format::{Pattern, Wide};
+use float_format::{Constants, Pattern, Wide};
 
 #[derive(Clone, Copy)]
 pub struct Double(pub u64);
@@ -16,21 +16,9 @@ impl Pattern for Double {
 
     ghost fits = { word64 };
 
-    ghost FRACTION_SIZE = { 52 };
-
-    const FRACTION_SIZE: u64 = 52;
-
-    ghost EXPONENT_SIZE = { 11 };
-
-    const EXPONENT_SIZE: u64 = 11;
-
-    ghost DEFAULT_NAN = { record { 0 = 9221120237041090560 } };
-
-    const DEFAULT_NAN: Double = Double(0x7ff8_0000_0000_0000);
-
-    ghost sizes = { (refl, refl) };
-
-    ghost default = { refl };
+    fn known_default_nan() -> Option<u64> {
+        Some(Self::DEFAULT_NAN.to_word())
+    }
 
     fn fraction_bits() -> u64 {
         Self::FRACTION_SIZE
@@ -47,6 +35,24 @@ impl Pattern for Double {
     fn from_word(word: u64) -> Double {
         Double(word)
     }
+}
+
+impl Constants for Double {
+    ghost FRACTION_SIZE = { 52 };
+
+    const FRACTION_SIZE: u64 = 52;
+
+    ghost EXPONENT_SIZE = { 11 };
+
+    const EXPONENT_SIZE: u64 = 11;
+
+    ghost DEFAULT_NAN = { record { 0 = 9221120237041090560 } };
+
+    const DEFAULT_NAN: Double = Double(0x7ff8_0000_0000_0000);
+
+    ghost sizes = { (refl, refl) };
+
+    ghost default = { refl };
 }
 
 impl Wide for Double {

@@ -1,7 +1,7 @@
 // Formats of binary floating point: patterns as words of 64, 32 and 16 bits, with what all functions on them ask.
 #![tactic(auto)]
 
-ghost use Rattle.std.specs.Prelude.{◌≡◌, refl, ℕ, ◌*◌, ◌<◌, None};
+ghost use Rattle.std.specs.Prelude.{◌≡◌, refl, ℕ, ◌*◌, ◌<◌, None, IfSome};
 ghost use Rattle.float_format.specs.Format.{Format, binary64, binary32, binary16, sign_bit, classify, class_number, is_nan, quieted, absolute, negated, default_nan};
 ghost use Rattle.float_format.specs.Number.{rank};
 ghost use Rattle.float_format.specs.Width.{InWord, Wide};
@@ -55,20 +55,14 @@ pub trait Pattern: Copy {
     // The number of the pattern.
     ghost bits: { Self → ℕ };
 
+    // The default NaN, of a type that has it as a constant (`Constants`). Of any other, `width::default_nan` works it out.
+    fn known_default_nan() -> Option<u64>
+        ensures { IfSome result (λ word. word ≡ default_nan format) }
+    {
+        None
+    }
+
     // The sizes of the fraction and of the exponent field. Beside them stands the sign.
-    ghost FRACTION_SIZE: { ℕ };
-
-    const FRACTION_SIZE: u64;
-
-    ghost EXPONENT_SIZE: { ℕ };
-
-    const EXPONENT_SIZE: u64;
-
-    // The NaN that a function answers where it refuses and no operand is one.
-    ghost DEFAULT_NAN: { Self };
-
-    const DEFAULT_NAN: Self;
-
     fn fraction_bits() -> u64
         ensures { result ≡ format.fraction };
 
@@ -140,10 +134,27 @@ pub trait Pattern: Copy {
     }
 
     ghost fits: { InWord format };
+}
 
-    ghost sizes: { (FRACTION_SIZE ≡ format.fraction) × (EXPONENT_SIZE ≡ format.exponent) };
+// A format's numbers as constants of its type.
+pub trait Constants: Pattern {
+    // The sizes of the fraction and of the exponent field.
+    ghost FRACTION_SIZE: { ℕ };
 
-    ghost default: { bits DEFAULT_NAN ≡ default_nan format };
+    const FRACTION_SIZE: u64;
+
+    ghost EXPONENT_SIZE: { ℕ };
+
+    const EXPONENT_SIZE: u64;
+
+    // The NaN that a function answers where it refuses and no operand is one.
+    ghost DEFAULT_NAN: { Self };
+
+    const DEFAULT_NAN: Self;
+
+    ghost sizes: { (FRACTION_SIZE ≡ Self.format.fraction) × (EXPONENT_SIZE ≡ Self.format.exponent) };
+
+    ghost default: { Self.bits DEFAULT_NAN ≡ default_nan Self.format };
 }
 
 impl Pattern for u64 {
@@ -153,21 +164,9 @@ impl Pattern for u64 {
 
     ghost fits = { word64 };
 
-    ghost FRACTION_SIZE = { 52 };
-
-    const FRACTION_SIZE: u64 = 52;
-
-    ghost EXPONENT_SIZE = { 11 };
-
-    const EXPONENT_SIZE: u64 = 11;
-
-    ghost DEFAULT_NAN = { 9221120237041090560 };
-
-    const DEFAULT_NAN: u64 = 0x7ff8_0000_0000_0000;
-
-    ghost sizes = { (refl, refl) };
-
-    ghost default = { refl };
+    fn known_default_nan() -> Option<u64> {
+        Some(Self::DEFAULT_NAN.to_word())
+    }
 
     fn fraction_bits() -> u64 {
         Self::FRACTION_SIZE
@@ -186,6 +185,24 @@ impl Pattern for u64 {
     }
 }
 
+impl Constants for u64 {
+    ghost FRACTION_SIZE = { 52 };
+
+    const FRACTION_SIZE: u64 = 52;
+
+    ghost EXPONENT_SIZE = { 11 };
+
+    const EXPONENT_SIZE: u64 = 11;
+
+    ghost DEFAULT_NAN = { 9221120237041090560 };
+
+    const DEFAULT_NAN: u64 = 0x7ff8_0000_0000_0000;
+
+    ghost sizes = { (refl, refl) };
+
+    ghost default = { refl };
+}
+
 impl Pattern for u32 {
     ghost format = { binary32 };
 
@@ -193,21 +210,9 @@ impl Pattern for u32 {
 
     ghost fits = { word32 };
 
-    ghost FRACTION_SIZE = { 23 };
-
-    const FRACTION_SIZE: u64 = 23;
-
-    ghost EXPONENT_SIZE = { 8 };
-
-    const EXPONENT_SIZE: u64 = 8;
-
-    ghost DEFAULT_NAN = { 2143289344 };
-
-    const DEFAULT_NAN: u32 = 0x7fc0_0000;
-
-    ghost sizes = { (refl, refl) };
-
-    ghost default = { refl };
+    fn known_default_nan() -> Option<u64> {
+        Some(Self::DEFAULT_NAN.to_word())
+    }
 
     fn fraction_bits() -> u64 {
         Self::FRACTION_SIZE
@@ -226,6 +231,24 @@ impl Pattern for u32 {
     }
 }
 
+impl Constants for u32 {
+    ghost FRACTION_SIZE = { 23 };
+
+    const FRACTION_SIZE: u64 = 23;
+
+    ghost EXPONENT_SIZE = { 8 };
+
+    const EXPONENT_SIZE: u64 = 8;
+
+    ghost DEFAULT_NAN = { 2143289344 };
+
+    const DEFAULT_NAN: u32 = 0x7fc0_0000;
+
+    ghost sizes = { (refl, refl) };
+
+    ghost default = { refl };
+}
+
 impl Pattern for u16 {
     ghost format = { binary16 };
 
@@ -233,21 +256,9 @@ impl Pattern for u16 {
 
     ghost fits = { word16 };
 
-    ghost FRACTION_SIZE = { 10 };
-
-    const FRACTION_SIZE: u64 = 10;
-
-    ghost EXPONENT_SIZE = { 5 };
-
-    const EXPONENT_SIZE: u64 = 5;
-
-    ghost DEFAULT_NAN = { 32256 };
-
-    const DEFAULT_NAN: u16 = 0x7e00;
-
-    ghost sizes = { (refl, refl) };
-
-    ghost default = { refl };
+    fn known_default_nan() -> Option<u64> {
+        Some(Self::DEFAULT_NAN.to_word())
+    }
 
     fn fraction_bits() -> u64 {
         Self::FRACTION_SIZE
@@ -264,6 +275,24 @@ impl Pattern for u16 {
     fn from_word(word: u64) -> u16 {
         word as u16
     }
+}
+
+impl Constants for u16 {
+    ghost FRACTION_SIZE = { 10 };
+
+    const FRACTION_SIZE: u64 = 10;
+
+    ghost EXPONENT_SIZE = { 5 };
+
+    const EXPONENT_SIZE: u64 = 5;
+
+    ghost DEFAULT_NAN = { 32256 };
+
+    const DEFAULT_NAN: u16 = 0x7e00;
+
+    ghost sizes = { (refl, refl) };
+
+    ghost default = { refl };
 }
 
 // The formats that have all functions: a half has the roundings and its conversions alone.

@@ -49,7 +49,10 @@ pub fn infinity_of<P: Pattern>() -> u64
 pub fn default_nan<P: Pattern>() -> u64
     ensures { (result ≡ default_nan P.format) × (result < 2 * sign_bit P.format) }
 {
-    P::DEFAULT_NAN.to_word()
+    match P::known_default_nan() {
+        Some(word) => word,
+        None => infinity_of::<P>() + power(P::fraction_bits() - 1),
+    }
 }
 
 // The pattern of 1.

@@ -12,7 +12,7 @@ ghost use Rattle.float_format.specs.Refusals.{refusal_number};
 ghost use Rattle.remainder.specs.Remainder.{fmod, fmod_refusal};
 ghost use Rattle.remainder.specs.Shape.{Turn, Turns, top_of, inverse_of, scale_of, is_special, are_units, Ordinary, Left};
 
-use float_format::width::{encoded, normal_shift, rest, signed_zero, unit};
+use float_format::width::{default_nan, encoded, normal_shift, rest, signed_zero, unit};
 use float_format::{Pattern, Wide, Word};
 
 pub mod field_sizes;
@@ -154,7 +154,7 @@ pub fn special_answer<P: Pattern>(x: u64, y: u64) -> Word<u64>
     requires { (x < 2 * sign_bit P.format) × (y < 2 * sign_bit P.format) × (is_special P.format x y ≡ true) }
     ensures { (result.word ≡ fmod P.format x y) × (refusal_number result.refusal ≡ fmod_refusal P.format x y) × (result.word < 2 * sign_bit P.format) }
 {
-    let nan = P::DEFAULT_NAN.to_word();
+    let nan = default_nan::<P>();
     field_sizes::special_answer(P::fraction_bits(), P::exponent_bits(), nan, x, y)
 }
 
